@@ -1,0 +1,84 @@
+-- `geometry::coordinates_ok` meets its contract. The loop's invariant: every coordinate passed is in range. Assumes nothing.
+use mathlib.Core.Path.{_≡_, refl, sym, ap, _∙_}
+use mathlib.Core.Bool.{Bool, true, false}
+use Prim.Native.Nat.{ℕ, _+_, _*_, _-_, _≤_, _<_}
+use native.Mathlib.Nat.{not-suc-le-zero}
+use native.Mathlib.Omega.{arith}
+use lib.ListN.{length, getD}
+use borrow.Author.Count.{below-more}
+use borrow.Author.Tests.{not-true, not-false}
+use Rattle.refusal.specs.Laws.{all-yes, all-no}
+use lib.IntN.{pos}
+use Rattle.geometry.specs.Coordinate.{coordinateOk}
+use Rattle.geometry.specs.Coordinate.{coordinatesOk}
+use Rattle.geometry.proofs.Coordinate.{coordinate-back}
+use borrow.Author.Needs.{needs}
+use Rattle.geometry.proofs.coordinates_ok.Statement.{statement}
+use Rattle.geometry.proofs.coordinates_ok.Tie as tie
+use Rattle.geometry.proofs.coordinates_ok.Reads as reads
+use Rattle.geometry.proofs.coordinates_ok.Lts as lts
+use Rattle.geometry.proofs.coordinate_ok.Reads as coordinate-ok-reads
+
+abbrev Inv-loop : tie.InvT-loop
+Inv-loop s n k₀ k = (k ≤ n) × ((j : ℕ) → j < k → coordinateOk (getD s j (pos 0)) ≡ true)
+
+abbrev μ-loop : tie.MeasureT-loop
+μ-loop s n k₀ k = n - k
+
+-- what the test of a coordinate says: the signed element is handed on by its bits
+said : (c : tie.After-coordinate-ok Inv-loop μ-loop) →
+    coordinateOk (getD (c .before .before .before .before .args .s .now) (c .before .before .before .loop .k) (pos 0)) ≡ c .coordinate-ok .result
+said c = coordinate-back _ (c .before .x .given) (c .coordinate-ok .ensures)
+
+loop-holds : tie.Need-loop-holds Inv-loop μ-loop
+loop-holds c = (omega arith, λ j l. absurd (not-suc-le-zero l))
+
+mul-x : tie.Need-mul-x Inv-loop μ-loop
+mul-x c = omega arith
+
+shared-slice-copy-out-x : tie.Need-shared-slice-copy-out-x Inv-loop μ-loop
+shared-slice-copy-out-x c = omega arith
+
+coordinate-ok-requires : tie.Need-coordinate-ok-requires Inv-loop μ-loop
+coordinate-ok-requires c κs = search needs
+
+returns : tie.Need-returns Inv-loop μ-loop
+unfolding coordinatesOk
+returns c =
+    let a = c .before .before .before .before .before .args in
+    let d = c .before .before .before .before .loop in
+    sym (all-no (a .n) (d .k) (λ k. coordinateOk (getD (a .s .now) k (pos 0))) (omega arith) (said (c .before) ∙ not-true _ (c .if1 .taken)))
+
+add-k : tie.Need-add-k Inv-loop μ-loop
+add-k c = omega arith
+
+loop-less : tie.Need-loop-less Inv-loop μ-loop
+loop-less c = omega arith
+
+loop-again : tie.Need-loop-again Inv-loop μ-loop
+loop-again c =
+    let a = c .before .before .before .before .before .args in
+    let d = c .before .before .before .before .loop in
+    (omega arith, below-more (λ (k : ℕ). coordinateOk (getD (a .s .now) k (pos 0)) ≡ true) (d .k) (d .inv .1) (said (c .before) ∙ not-false _ (c .if1 .left)))
+
+returns-2 : tie.Need-returns-2 Inv-loop μ-loop
+unfolding coordinatesOk
+returns-2 c =
+    let a = c .before .before .args in
+    sym (all-yes (a .n) (λ k. coordinateOk (getD (a .s .now) k (pos 0))) (λ k l. c .before .loop .inv .1 k (omega arith)))
+
+pub coordinates-ok-spec : {M : Type 1} → statement M
+coordinates-ok-spec =
+    tie.close
+    (tie.spec
+    Inv-loop
+    μ-loop
+    loop-holds
+    mul-x
+    shared-slice-copy-out-x
+    coordinate-ok-requires
+    returns
+    add-k
+    loop-less
+    loop-again
+    returns-2)
