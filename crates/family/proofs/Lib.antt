@@ -1,0 +1,15 @@
+pub mod Counts
+pub mod Paths
+pub mod Checks
+pub mod Families
+pub mod Costs
+pub mod Ties
+pub mod Readouts
+pub mod Local
+pub mod After
+pub mod Ranks
+pub mod Lists
+pub mod Foreign
+pub mod Levels
+pub mod Choices
+pub mod Examples

@@ -1,0 +1,4 @@
+pub mod Address
+pub mod Writes
+pub mod Check
+pub mod Stops

@@ -1,0 +1,61 @@
+-- The loop that finds the chosen stop, from the farthest stop down; and lists that such loops fill. Assumes nothing.
+use mathlib.Core.Path.{_≡_, refl, sym, _∙_}
+use mathlib.Core.Logic.{⊎-elim}
+use mathlib.Core.List.{List}
+use Prim.Native.Nat.{ℕ, zero, suc, _+_, _-_, _≤_, _<_, min}
+use native.Mathlib.Nat.{eq-or-lt-of-le}
+use native.Mathlib.Omega.{arith}
+use lib.ListN.{length, getD, set, replicate}
+use lib.Seq.{getD-set-same, getD-set-other}
+use Rattle.family.specs.Family.{least, next}
+use Rattle.family.proofs.Paths.{least-best, next-pick, best, pick, best-last, pick-last, best-step, pick-take, pick-skip}
+use Rattle.table.specs.Path.{SumAt, Stopped}
+
+-- the loop over the stops from j down: what is found of those from x on, and one stop more
+pub record Found (c : ℕ → ℕ → ℕ) (p j x sum to : ℕ) : Type 0 where
+  pub sum-is : sum ≡ best c p x j
+  pub to-is : to ≡ pick c p x j
+  pub small : sum ≤ 65535
+
+module _ (c : ℕ → ℕ → ℕ) (p j : ℕ) where
+  pub found-last : (s : ℕ) → s ≡ c p j → s ≤ 65535 → Found c p j j s j
+  found-last s e h = record { sum-is = e ∙ sym (best-last c p j); to-is = sym (pick-last c p j); small = h }
+
+  module _ (x s t by r : ℕ) (hx : x ≤ j) (h0 : 0 < x) (F : Found c p j x s t) (rest : SumAt c (x - 1) j r) (e : by ≡ c p (x - 1) + r) where
+    next-x : suc (x - 1) ≡ x
+    next-x = omega arith
+
+    step-is : best c p (x - 1) j ≡ min by s
+    step-is = best-step c p j (x - 1) (omega arith) ∙ rw (next-x, ← F .sum-is, ← rest .is, e) refl
+
+    pub found-take : by < s → Found c p j (x - 1) by (x - 1)
+    found-take h = record {
+      sum-is = omega (arith, step-is);
+      to-is = sym (pick-take c p j (x - 1) (omega arith) (rw (next-x, ← F .sum-is, ← rest .is, ← e) h));
+      small = omega (arith, F .small);
+    }
+
+    pub found-skip : s ≤ by → Found c p j (x - 1) s t
+    found-skip h = record {
+      sum-is = omega (arith, step-is);
+      to-is = F .to-is ∙ sym (pick-skip c p j (x - 1) (omega arith) (rw (next-x, ← F .sum-is, ← rest .is, ← e) h) ∙ rw next-x refl);
+      small = F .small;
+    }
+
+  pub found-all : (x s t : ℕ) → p < j → x ≡ suc p → Found c p j x s t → Stopped c p j s t
+  found-all x s t h e F = record {
+    sum-at = record { is = F .sum-is ∙ rw e (sym (least-best c p j h)); small = F .small };
+    to-is = F .to-is ∙ rw e (sym (next-pick c p j));
+  }
+
+-- a place of a list of zeros
+pub zeros : (n q : ℕ) → _≡_ {A = ℕ} (getD (replicate n 0) q 0) 0
+zeros zero q = refl
+zeros (suc n) zero = refl
+zeros (suc n) (suc q) = zeros n q
+
+-- a list that holds P at the places after x, with P stored at x
+pub filled : (P : ℕ → ℕ → Type 0) (Q : ℕ → Type 0) (l : List ℕ) (x v : ℕ) → x < length l → P x v → ((y : ℕ) → x < y → Q y → P y (getD l y 0))
+    → (y : ℕ) → x ≤ y → Q y → P y (getD (set l x v) y 0)
+filled P Q l x v h here rest y a b =
+    ⊎-elim (λ e. rw (← e, getD-set-same l x v 0 h) here) (λ q. rw (getD-set-other l x y v 0 (omega arith)) (rest y q b)) (eq-or-lt-of-le a)

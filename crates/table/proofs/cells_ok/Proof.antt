@@ -1,0 +1,71 @@
+-- `table::cells_ok` meets its contract. The loop's invariant: every level passed may hold what it holds. Assumes nothing.
+use mathlib.Core.Path.{_≡_, sym, _∙_}
+use mathlib.Core.Bool.{true}
+use Prim.Native.Nat.{ℕ, _+_, _-_, _≤_, _<_}
+use native.Mathlib.Nat.{not-suc-le-zero}
+use native.Mathlib.Omega.{arith}
+use lib.ListN.{length}
+use borrow.Author.Count.{below-more}
+use borrow.Author.Tests.{not-true, not-false}
+use Rattle.refusal.specs.Laws.{all-yes, all-no}
+use Rattle.table.specs.Check.{levelOk, cellsOk}
+use Rattle.table.proofs.Address.{room-below}
+use Rattle.table.proofs.cells_ok.Statement.{statement}
+use Rattle.table.proofs.cells_ok.Tie as tie
+
+abbrev Inv-loop : tie.InvT-loop
+Inv-loop table cap held m l₀ l = (l ≤ m) × ((x : ℕ) → x < l → levelOk table cap held (x + 1) ≡ true)
+
+abbrev μ-loop : tie.MeasureT-loop
+μ-loop table cap held m l₀ l = m - l
+
+loop-holds : tie.Need-loop-holds Inv-loop μ-loop
+loop-holds c = (omega arith, λ x h. absurd (not-suc-le-zero h))
+
+add-level-ok : tie.Need-add-level-ok Inv-loop μ-loop
+add-level-ok c = omega arith
+
+level-ok-requires : tie.Need-level-ok-requires Inv-loop μ-loop
+level-ok-requires c κs =
+    let s = c .before .before .before in
+    (omega arith, omega arith, omega arith, room-below (s .args .cap) (c .before .loop .l + 1) (s .args .m) _ (omega arith) (s .pre .2), omega arith)
+
+returns : tie.Need-returns Inv-loop μ-loop
+unfolding cellsOk
+returns c =
+    let a = c .before .before .before .before .before .args in
+    let d = c .before .before .before .loop in
+    sym (all-no (a .m) (d .l) (λ x. levelOk (a .table .now) (a .cap) (a .held) (x + 1)) (omega arith) (sym (c .before .level-ok .ensures) ∙ not-true _ (c .if1 .taken)))
+
+add-l : tie.Need-add-l Inv-loop μ-loop
+add-l c = omega arith
+
+loop-less : tie.Need-loop-less Inv-loop μ-loop
+loop-less c = omega arith
+
+loop-again : tie.Need-loop-again Inv-loop μ-loop
+loop-again c =
+    let a = c .before .before .before .before .before .args in
+    let d = c .before .before .before .loop in
+    (omega arith, below-more (λ (x : ℕ). levelOk (a .table .now) (a .cap) (a .held) (x + 1) ≡ true) (d .l) (d .inv .1) (sym (c .before .level-ok .ensures) ∙ not-false _ (c .if1 .left)))
+
+returns-2 : tie.Need-returns-2 Inv-loop μ-loop
+unfolding cellsOk
+returns-2 c =
+    let a = c .before .before .before .args in
+    sym (all-yes (a .m) (λ x. levelOk (a .table .now) (a .cap) (a .held) (x + 1)) (λ x h. c .before .loop .inv .1 x (omega arith)))
+
+pub cells-ok-spec : {M : Type 1} → statement M
+cells-ok-spec =
+    tie.close
+    (tie.spec
+    Inv-loop
+    μ-loop
+    loop-holds
+    add-level-ok
+    level-ok-requires
+    returns
+    add-l
+    loop-less
+    loop-again
+    returns-2)
