@@ -1,9 +1,8 @@
 -- The tests of coordinates decide what they are named for. Assumes nothing.
 use mathlib.Core.Path.{_≡_, sym, ap, _∙_}
-use Prim.Native.Nat.{ℕ, suc, _≤_, _<_, suc-le-suc}
-use native.Mathlib.Omega.{arith}
-use native.Mathlib.Nat.{le-of-suc-le-suc}
-use mathlib.Core.Bool.{Bool, and-true}
+use Prim.Native.Nat.{ℕ, _≤_, _<_, suc-le-suc}
+use native.Mathlib.Nat.{le-trans, lt-of-lt-of-le, le-of-suc-le-suc}
+use mathlib.Core.Bool.{Bool, true, and-true}
 use mathlib.Core.List.{List}
 use lib.IntN.{ℤ, pos, negsuc}
 use lib.ListN.{getD, length}
@@ -23,6 +22,12 @@ coordinate-decided (negsuc n) = rw and-true (by-test _ n 16383 (λ h. record { l
 pub coordinates-decided : (s : List ℤ) (n : ℕ) → Decides ((k : ℕ) → k < n → Coord (getD s k (pos 0))) (coordinatesOk s n)
 unfolding coordinatesOk
 coordinates-decided s n = all-decided _ _ n (λ k l. coordinate-decided (getD s k (pos 0)))
+
+pub in-range : {s : List ℤ} {n : ℕ} → n ≤ length s → coordinatesOk s n ≡ true → InRange s n
+in-range {s} {n} h t = record { held = h; each = coordinates-decided s n .right t }
+
+pub fewer : {s : List ℤ} {m n : ℕ} → m ≤ n → InRange s n → InRange s m
+fewer h r = record { held = le-trans h (r .held); each = λ k l. r .each k (lt-of-lt-of-le l h) }
 
 -- a coordinate that was handed on by its bits is tested as itself
 pub coordinate-back : {b : Bool} (z : ℤ) → mag z < 32768 → b ≡ coordinateOk (toZ w16 (ofZ w16 z)) → coordinateOk z ≡ b

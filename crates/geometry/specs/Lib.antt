@@ -1,1 +1,4 @@
 pub mod Coordinate
+pub mod Near
+pub mod Shifted
+pub mod Test

@@ -1,6 +1,6 @@
 -- The one form of every check. Code is proved against a row of tests, `need ok stop rest`: where the test fails the answer is `stop`, else the rest of the
 -- row decides, so the lowest number that applies is given. A contract shows the same row in plain statements, `First num P rest`. Assumes nothing.
-use Prim.Native.Nat.{ℕ, zero, suc, _<_}
+use Prim.Native.Nat.{ℕ, zero, suc}
 use mathlib.Core.Path.{_≡_}
 use mathlib.Core.Logic.{_⊎_}
 use mathlib.Core.Bool.{Bool, true, false, _&&_}

@@ -1,7 +1,7 @@
 -- Tests and plain statements: when a test decides a statement, and that a row of tests is the row of statements. Assumes nothing.
 use mathlib.Core.Path.{_≡_, refl, sym, subst}
-use mathlib.Core.Logic.{_⊎_, inl, inr, ⊎-elim, _↔_}
-use mathlib.Core.Bool.{Bool, true, false, _&&_, _||_, cond, true≢false}
+use mathlib.Core.Logic.{_⊎_, inl, inr, ⊎-elim}
+use mathlib.Core.Bool.{Bool, true, false, _&&_, _||_, true≢false}
 use Prim.Native.Nat.{ℕ, zero, suc, _≤_, _<_}
 use native.Mathlib.Nat.{not-suc-le-zero, le-step, le-of-suc-le-suc, lt-suc-self, eq-or-lt-of-le, not-le-of-lt}
 use native.Mathlib.Omega.{arith}
@@ -9,10 +9,9 @@ use lib.Dec.{leb, ltb, eqb}
 use borrow.Author.Tests.{leb-true, leb-false, ltb-true, ltb-false, eqb-true, eqb-false}
 use Rattle.refusal.specs.declared.Refusal.{Refusal}
 use Rattle.refusal.specs.declared.Outcome.{Outcome}
-use Rattle.refusal.specs.declared.Outcome.the-variants.{Done, Refused}
+use Rattle.refusal.specs.declared.Outcome.the-variants.{Refused}
 use Rattle.refusal.specs.Number.{number, code}
 use Rattle.refusal.specs.Check.{need, allBelow, from-to, Decides, First}
-use Rattle.refusal.specs.Laws.{and-left, and-right, all-at, all-yes, all-no}
 
 pub yes-decides : {P : Type 0} → P → Decides P true
 yes-decides p = record { right = λ t. p; wrong = λ t. absurd (true≢false t) }

@@ -1,16 +1,15 @@
 -- `geometry::coordinates_ok` meets its contract. The loop's invariant: every coordinate passed is in range. Assumes nothing.
-use mathlib.Core.Path.{_≡_, refl, sym, ap, _∙_}
-use mathlib.Core.Bool.{Bool, true, false}
-use Prim.Native.Nat.{ℕ, _+_, _*_, _-_, _≤_, _<_}
+use mathlib.Core.Path.{_≡_, sym, _∙_}
+use mathlib.Core.Bool.{true}
+use Prim.Native.Nat.{ℕ, _-_, _≤_, _<_}
 use native.Mathlib.Nat.{not-suc-le-zero}
 use native.Mathlib.Omega.{arith}
-use lib.ListN.{length, getD}
+use lib.ListN.{getD}
 use borrow.Author.Count.{below-more}
 use borrow.Author.Tests.{not-true, not-false}
 use Rattle.refusal.specs.Laws.{all-yes, all-no}
 use lib.IntN.{pos}
-use Rattle.geometry.specs.Coordinate.{coordinateOk}
-use Rattle.geometry.specs.Coordinate.{coordinatesOk}
+use Rattle.geometry.specs.Coordinate.{coordinateOk, coordinatesOk}
 use Rattle.geometry.proofs.Coordinate.{coordinate-back}
 use borrow.Author.Needs.{needs}
 use Rattle.geometry.proofs.coordinates_ok.Statement.{statement}

@@ -1,0 +1,48 @@
+-- Whether a stretch is permitted, by computing: three cases, as the nearest point of the segment is its beginning, its end or between.
+-- Assumes nothing.
+use mathlib.Core.Bool.{Bool, cond}
+use mathlib.Core.List.{List}
+use Prim.Native.Nat.{ℕ, suc, _+_, _*_, _-_}
+use lib.Dec.{leb}
+use lib.IntN.{ℤ, pos, negsuc}
+use lib.ListN.{getD}
+use Rattle.refusal.specs.Check.{allBelow}
+use Rattle.algebra.specs.Gap.{gap}
+use Rattle.geometry.specs.Shifted.{apart}
+
+-- a coordinate, moved by 16,384
+abbrev pub moved : ℤ → ℕ
+moved (pos n) = n + 16384
+moved (negsuc n) = 16384 - suc n
+
+-- the two sides of (q - a)·(b - a)
+abbrev pub fore : ℕ → ℕ → ℕ → ℕ → ℕ → ℕ → ℕ
+fore a x b y q z = q * b + a * a + (z * y + x * x)
+
+abbrev pub aft : ℕ → ℕ → ℕ → ℕ → ℕ → ℕ → ℕ
+aft a x b y q z = q * a + a * b + (z * x + x * y)
+
+-- the two sides of the cross product, and its square
+abbrev pub left : ℕ → ℕ → ℕ → ℕ → ℕ → ℕ → ℕ
+left a x b y q z = q * y + a * x + (z * a + x * b)
+
+abbrev pub right : ℕ → ℕ → ℕ → ℕ → ℕ → ℕ → ℕ
+right a x b y q z = q * x + a * y + (z * b + x * a)
+
+unfoldable pub cross-sq : ℕ → ℕ → ℕ → ℕ → ℕ → ℕ → ℕ
+cross-sq a x b y q z = gap (left a x b y q z) (right a x b y q z) * gap (left a x b y q z) (right a x b y q z)
+
+-- (q, z) lies within reach, a squared tolerance, of the segment from (a, x) to (b, y)
+unfoldable pub reaches : ℕ → ℕ → ℕ → ℕ → ℕ → ℕ → ℕ → Bool
+reaches a x b y q z reach =
+    cond (leb (fore a x b y q z) (aft a x b y q z)) (leb (apart q z a x) reach)
+    (cond (leb (aft a x b y q z + apart b y a x) (fore a x b y q z)) (leb (apart q z b y) reach)
+    (leb (cross-sq a x b y q z) (reach * apart b y a x)))
+
+-- the stretch from i to j is permitted at e
+unfoldable pub permits : List ℤ → List ℤ → ℕ → ℕ → ℕ → Bool
+permits xs ys i j e =
+    allBelow (j - suc i)
+    (λ l.
+    reaches (moved (getD xs i (pos 0))) (moved (getD ys i (pos 0))) (moved (getD xs j (pos 0))) (moved (getD ys j (pos 0)))
+    (moved (getD xs (suc i + l) (pos 0))) (moved (getD ys (suc i + l) (pos 0))) (e * e))
