@@ -13,3 +13,4 @@ pub mod Foreign
 pub mod Levels
 pub mod Choices
 pub mod Examples
+pub mod Promise

@@ -52,6 +52,10 @@ module _ (Permit : ℕ → ℕ → ℕ → Type 0) (k i j : ℕ) where
     pub some : Permit k i j → (L : ℕ → List ℕ) × Family L × (L k ≡ i ∷ j ∷ []) × (size L k ≡ v)
     pub every : Permit k i j → (L : ℕ → List ℕ) → Family L → L k ≡ i ∷ j ∷ [] → v ≤ size L k
 
+-- every cell of a stretch i < j < n is its cost
+abbrev pub Costs : (ℕ → ℕ → ℕ → Type 0) → (ℕ → ℕ → ℕ → ℕ) → ℕ → ℕ → Type 0
+Costs Permit c m n = (k i j : ℕ) → 1 ≤ k → k ≤ m → i < j → j < n → Cost Permit k i j (c k i j)
+
 -- the levels that ranks give the samples i to j: level ℓ is those of rank at least ℓ
 unfoldable pub levels : (ℕ → ℕ) → ℕ → ℕ → ℕ → List ℕ
 levels r i j ℓ = numbers r ℓ i (suc (j - i))
