@@ -1,6 +1,6 @@
 -- A coordinate, moved by 16,384: it is not negative, and fits. Assumes nothing.
 use mathlib.Core.Path.{_≡_, refl}
-use Prim.Native.Nat.{suc, _+_, _-_, _≤_, _<_}
+use Prim.Native.Nat.{suc, _≤_, _<_}
 use native.Mathlib.Omega.{arith}
 use borrow.Author.Tests.{le-ltb}
 use lib.IntN.{ℤ, pos, negsuc, _+ℤ_}

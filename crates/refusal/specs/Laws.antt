@@ -32,6 +32,11 @@ pub and-right : (a b : Bool) → a && b ≡ true → b ≡ true
 and-right true b p = p
 and-right false b p = absurd (true≢false (sym p))
 
+-- a conjunction that fails has a part that does
+pub and-fails : (a b : Bool) → a && b ≡ false → (a ≡ false) ⊎ (b ≡ false)
+and-fails true b h = inr h
+and-fails false b h = inl refl
+
 pub all-yes : (n : ℕ) (f : ℕ → Bool) → ((k : ℕ) → k < n → f k ≡ true) → allBelow n f ≡ true
 unfolding allBelow
 all-yes zero f h = refl
@@ -52,6 +57,26 @@ all-at (suc n) f p k l =
     ⊎-elim (λ e. subst (λ (i : ℕ). f i ≡ true) (sym e) (and-right (allBelow n f) (f n) p))
     (λ lt. all-at n f (and-left (allBelow n f) (f n) p) k lt)
     (eq-or-lt-of-le (le-of-suc-le-suc l))
+
+-- where not every number below n passes, one fails
+pub record Fails (n : ℕ) (f : ℕ → Bool) : Type 0 where
+  pub at : ℕ
+  pub below : at < n
+  pub fails : f at ≡ false
+
+pub some-fails : (n : ℕ) (f : ℕ → Bool) → allBelow n f ≡ false → Fails n f
+unfolding allBelow
+some-fails zero f h = absurd (true≢false h)
+some-fails (suc n) f h =
+    ⊎-elim
+    (λ e. let g = some-fails n f e in record { at = g .at; below = omega (arith, g .below); fails = g .fails })
+    (λ e. record { at = n; below = omega arith; fails = e })
+    (and-fails (allBelow n f) (f n) h)
+
+pub all-same : (n : ℕ) (f g : ℕ → Bool) → ((k : ℕ) → k < n → f k ≡ g k) → allBelow n f ≡ allBelow n g
+unfolding allBelow
+all-same zero f g h = refl
+all-same (suc n) f g h = rw (all-same n f g (λ k l. h k (omega arith)), h n (omega arith))
 
 -- a row of tests ends in Done only where each test holds
 pub need-done : (b : Bool) (r : Refusal) (o : Outcome) → need b (Refused r) o ≡ Done → (b ≡ true) × (o ≡ Done)

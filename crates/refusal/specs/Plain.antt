@@ -1,5 +1,5 @@
 -- Tests and plain statements: when a test decides a statement, and that a row of tests is the row of statements. Assumes nothing.
-use mathlib.Core.Path.{_≡_, refl, sym, subst}
+use mathlib.Core.Path.{_≡_, refl, sym, subst, _∙_}
 use mathlib.Core.Logic.{_⊎_, inl, inr, ⊎-elim}
 use mathlib.Core.Bool.{Bool, true, false, _&&_, _||_, true≢false}
 use Prim.Native.Nat.{ℕ, zero, suc, _≤_, _<_}
@@ -8,6 +8,7 @@ use native.Mathlib.Omega.{arith}
 use lib.Dec.{leb, ltb, eqb}
 use borrow.Author.Tests.{leb-true, leb-false, ltb-true, ltb-false, eqb-true, eqb-false}
 use Rattle.refusal.specs.declared.Refusal.{Refusal}
+use Rattle.refusal.specs.declared.Refusal.the-variants.{Setup, Tolerance, Buffer, Held, Stored, Coordinate, Full, Missing, Few, Length, Record}
 use Rattle.refusal.specs.declared.Outcome.{Outcome}
 use Rattle.refusal.specs.declared.Outcome.the-variants.{Refused}
 use Rattle.refusal.specs.Number.{number, code}
@@ -66,8 +67,30 @@ all-decided P f (suc n) d =
     (λ p. (λ k l. p k (le-step l), p n (lt-suc-self n)))
     (both-decided (allBelow n f) (f n) (all-decided P f n (λ k l. d k (le-step l))) (d n (lt-suc-self n)))
 
--- a row of tests shows the row of statements: P is what its test refuses
+-- a row of tests shows the row of statements, by what a passing and a failing test say of P
 pub first-row : {P : Type 0} (b : Bool) (r : Refusal) (o : Outcome) (rest : ℕ → Type 0)
-    → Decides (P → ⊥) b → (P ⊎ (P → ⊥)) → rest (code o) → First (number r) P rest (code (need b (Refused r) o))
-first-row true r o rest d c h = ⊎-elim (λ p. absurd (d .right refl p)) (λ n. inr (n, h)) c
-first-row false r o rest d c h = ⊎-elim (λ p. inl (p, refl)) (λ n. absurd (d .wrong refl n)) c
+    → (b ≡ true → P → ⊥) → (b ≡ false → P) → rest (code o) → First (number r) P rest (code (need b (Refused r) o))
+first-row true r o rest passed failed h = inr (passed refl, h)
+first-row false r o rest passed failed h = inl (failed refl, refl)
+
+-- and the row of statements leaves no choice
+pub first-one : (num : ℕ) (P : Type 0) (rest : ℕ → Type 0) → ((j k : ℕ) → rest j → rest k → j ≡ k) → (j k : ℕ) → First num P rest j → First num P rest k → j ≡ k
+first-one num P rest one j k x y =
+    ⊎-elim
+    (λ a. ⊎-elim (λ b. a .1 ∙ sym (b .1)) (λ b. absurd (b .0 (a .0))) y)
+    (λ a. ⊎-elim (λ b. absurd (a .0 (b .0))) (λ b. one j k (a .1) (b .1)) y)
+    x
+
+-- no refusal has the number 0
+pub numbered : (r : Refusal) → number r ≡ 0 → ⊥
+numbered Setup h = omega arith
+numbered Tolerance h = omega arith
+numbered Buffer h = omega arith
+numbered Held h = omega arith
+numbered Stored h = omega arith
+numbered Coordinate h = omega arith
+numbered Full h = omega arith
+numbered Missing h = omega arith
+numbered Few h = omega arith
+numbered Length h = omega arith
+numbered Record h = omega arith

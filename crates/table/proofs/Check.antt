@@ -1,13 +1,13 @@
 -- The test of the cells decides check 5 in plain words. Assumes nothing.
-use mathlib.Core.Path.{_≡_, refl, subst}
-use mathlib.Core.Bool.{Bool, _&&_, _||_}
+use mathlib.Core.Path.{_≡_}
+use mathlib.Core.Bool.{_&&_}
 use mathlib.Core.List.{List}
 use mathlib.Core.Logic.{_⊎_, inl, inr, ⊎-elim}
-use Prim.Native.Nat.{ℕ, suc, _+_, _-_, _*_, _≤_, _<_}
+use Prim.Native.Nat.{ℕ, _+_, _-_, _*_, _≤_, _<_}
 use native.Mathlib.Omega.{arith}
 use lib.Dec.{eqb, ltb}
 use lib.ListN.{getD}
-use Rattle.refusal.specs.Check.{Decides, allBelow, from-to}
+use Rattle.refusal.specs.Check.{Decides, from-to}
 use Rattle.refusal.specs.Plain.{carry, by-equal, by-less, both-decided, either-decided, from-to-decided, all-decided}
 use Rattle.family.specs.Family.{none}
 use Rattle.family.specs.Fine.{Fine, Checked}

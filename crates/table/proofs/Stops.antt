@@ -7,7 +7,6 @@ use native.Mathlib.Nat.{eq-or-lt-of-le}
 use native.Mathlib.Omega.{arith}
 use lib.ListN.{length, getD, set, replicate}
 use lib.Seq.{getD-set-same, getD-set-other}
-use Rattle.family.specs.Family.{least, next}
 use Rattle.family.proofs.Paths.{least-best, next-pick, best, pick, best-last, pick-last, best-step, pick-take, pick-skip}
 use Rattle.table.specs.Path.{SumAt, Stopped}
 

@@ -1,7 +1,7 @@
 -- Check 5 of the cells, as tests; proofs/Check.antt has the law that joins them to the plain words. Assumes nothing.
 use mathlib.Core.Bool.{Bool, _&&_, _||_}
 use mathlib.Core.List.{List}
-use Prim.Native.Nat.{ℕ, suc, _+_, _-_, _*_}
+use Prim.Native.Nat.{ℕ, _+_, _-_, _*_}
 use lib.Dec.{ltb, eqb}
 use lib.ListN.{getD}
 use Rattle.refusal.specs.Check.{allBelow, from-to}

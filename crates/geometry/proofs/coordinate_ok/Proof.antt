@@ -9,8 +9,6 @@ use mir.Facts.{toZ-ofZ}
 use Rattle.geometry.specs.Coordinate.{coordinateOk}
 use Rattle.geometry.proofs.coordinate_ok.Statement.{statement}
 use Rattle.geometry.proofs.coordinate_ok.Tie as tie
-use Rattle.geometry.proofs.coordinate_ok.Reads as reads
-use Rattle.geometry.proofs.coordinate_ok.Lts as lts
 
 returns : tie.Need-returns
 unfolding coordinateOk

@@ -14,9 +14,6 @@ use Rattle.geometry.proofs.Coordinate.{coordinate-back}
 use borrow.Author.Needs.{needs}
 use Rattle.geometry.proofs.coordinates_ok.Statement.{statement}
 use Rattle.geometry.proofs.coordinates_ok.Tie as tie
-use Rattle.geometry.proofs.coordinates_ok.Reads as reads
-use Rattle.geometry.proofs.coordinates_ok.Lts as lts
-use Rattle.geometry.proofs.coordinate_ok.Reads as coordinate-ok-reads
 
 abbrev Inv-loop : tie.InvT-loop
 Inv-loop s n k₀ k = (k ≤ n) × ((j : ℕ) → j < k → coordinateOk (getD s j (pos 0)) ≡ true)

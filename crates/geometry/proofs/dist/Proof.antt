@@ -5,10 +5,6 @@ use Rattle.algebra.specs.Gap.{gap}
 use Rattle.geometry.specs.Shifted.{apart}
 use Rattle.geometry.proofs.dist.Statement.{statement}
 use Rattle.geometry.proofs.dist.Tie as tie
-use Rattle.geometry.proofs.dist.Reads as reads
-use Rattle.geometry.proofs.dist.Lts as lts
-use Rattle.geometry.proofs.diff.Reads as diff-reads
-use Rattle.geometry.proofs.pair.Reads as pair-reads
 
 diff-requires : tie.Need-diff-requires
 diff-requires c κs = search needs

@@ -5,8 +5,6 @@ use mir.Facts.{toZ-ofZ}
 use Rattle.geometry.proofs.Move.{lifted, at-most, stands, narrow, wide, sum-fits}
 use Rattle.geometry.proofs.moved_at.Statement.{statement}
 use Rattle.geometry.proofs.moved_at.Tie as tie
-use Rattle.geometry.proofs.moved_at.Reads as reads
-use Rattle.geometry.proofs.moved_at.Lts as lts
 
 mul-result : tie.Need-mul-result
 mul-result c = search needs

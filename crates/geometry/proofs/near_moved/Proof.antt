@@ -8,11 +8,6 @@ use Rattle.geometry.specs.Test.{cross-sq}
 use Rattle.geometry.proofs.Decide.{behind-test, past-test, abreast-test, apart-bound, cross-bound}
 use Rattle.geometry.proofs.near_moved.Statement.{statement}
 use Rattle.geometry.proofs.near_moved.Tie as tie
-use Rattle.geometry.proofs.near_moved.Reads as reads
-use Rattle.geometry.proofs.near_moved.Lts as lts
-use Rattle.geometry.proofs.diff.Reads as diff-reads
-use Rattle.geometry.proofs.dist.Reads as dist-reads
-use Rattle.geometry.proofs.pair.Reads as pair-reads
 
 pair-requires : tie.Need-pair-requires
 pair-requires c κs = search needs

@@ -11,11 +11,6 @@ use Rattle.geometry.specs.Near.{Along}
 use Rattle.geometry.proofs.Link.{decides-near}
 use Rattle.geometry.proofs.permitted.Statement.{statement}
 use Rattle.geometry.proofs.permitted.Tie as tie
-use Rattle.geometry.proofs.permitted.Reads as reads
-use Rattle.geometry.proofs.permitted.Lts as lts
-use Rattle.geometry.proofs.dist.Reads as dist-reads
-use Rattle.geometry.proofs.moved_at.Reads as moved-at-reads
-use Rattle.geometry.proofs.near_moved.Reads as near-moved-reads
 
 abbrev Inv-loop : tie.InvT-loop
 Inv-loop xs ys i j e a x b y length reach k₀ k = (i < k) × (k ≤ j) × ((l : ℕ) → l < k → i < l → Along xs ys i j e l)

@@ -1,9 +1,8 @@
 -- `table::best_stop` meets its contract. The loop's invariant: the best of the stops from x on. Assumes nothing.
-use mathlib.Core.Path.{_≡_, _∙_, sym, ap}
-use Prim.Native.Nat.{ℕ, suc, _+_, _-_, _*_, _≤_, _<_}
+use Prim.Native.Nat.{_-_, _≤_, _<_}
 use native.Mathlib.Omega.{arith}
 use borrow.Author.Needs.{needs}
-use lib.ListN.{length, getD}
+use lib.ListN.{getD}
 use Rattle.table.specs.Table.{cell}
 use Rattle.table.specs.Path.{SumAt}
 use Rattle.table.proofs.Stops.{Found, found-last, found-take, found-skip, found-all}

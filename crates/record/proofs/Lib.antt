@@ -1,0 +1,5 @@
+pub mod Signed
+pub mod Record
+pub mod Pause
+pub mod Plain
+pub mod Bytes

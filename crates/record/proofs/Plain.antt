@@ -1,0 +1,114 @@
+-- A record and a file are given exactly the number of the plain statements, whatever their bytes. Assumes nothing.
+use mathlib.Core.Path.{_≡_, refl, sym, subst, _∙_}
+use mathlib.Core.Logic.{_⊎_, inl, inr, ⊎-elim}
+use mathlib.Core.Bool.{true, false}
+use mathlib.Core.List.{List}
+use Prim.Native.Nat.{ℕ, zero, suc, _+_, _*_, _/_, _%_, _<_}
+use native.Mathlib.Nat.{not-suc-le-zero, le-of-suc-le-suc, eq-or-lt-of-le, not-le-of-lt, lt-of-not-le}
+use native.Mathlib.Decide.{decLe}
+use native.Mathlib.Omega.{arith}
+use lib.Dec.{leb, eqb}
+use lib.ListN.{length, getD}
+use borrow.Author.Tests.{leb-true, leb-false, eqb-true, eqb-false}
+use Rattle.refusal.specs.declared.Refusal.the-variants.{Coordinate, Length, Record}
+use Rattle.refusal.specs.declared.Outcome.{Outcome}
+use Rattle.refusal.specs.declared.Outcome.the-variants.{Done, Refused}
+use Rattle.refusal.specs.Number.{code}
+use Rattle.refusal.specs.Check.{andThen, First}
+use Rattle.refusal.specs.Laws.{and-left, and-right, and-fails, all-at, some-fails}
+use Rattle.refusal.specs.Plain.{by-equal, both-decided, first-row, first-one, numbered}
+use Rattle.geometry.specs.Coordinate.{coordinateOk}
+use Rattle.geometry.proofs.Coordinate.{coordinate-decided}
+use Rattle.record.specs.Record.{across, up, rank, spareOk, recordOutcome, decodeOutcome, decodeOf}
+use Rattle.record.specs.Pause.{fileLengthOk, recordsOutcome, fileOutcome, pauseLineOf}
+use Rattle.record.specs.Plain.{SpareSet, RecordGiven, DecodeGiven, FirstRefused, RecordsGiven, FileGiven}
+use Rattle.record.proofs.Record.{decode-outcome}
+use Rattle.record.proofs.Pause.{line-outcome}
+
+-- ---- one record
+spare-right : (s : List ℕ) (p : ℕ) → spareOk s p ≡ true → SpareSet s p → ⊥
+unfolding spareOk
+spare-right s p h g = g .set (eqb-true _ 0 (all-at 7 (λ k. eqb (getD s (p + 9 + k) 0) 0) h (g .at) (g .spare)))
+
+spare-wrong : (s : List ℕ) (p : ℕ) → spareOk s p ≡ false → SpareSet s p
+unfolding spareOk
+spare-wrong s p h = let g = some-fails 7 (λ k. eqb (getD s (p + 9 + k) 0) 0) h in record { at = g .at; spare = g .below; set = eqb-false _ 0 (g .fails) }
+
+pub record-given : (s : List ℕ) (p : ℕ) → RecordGiven s p (code (recordOutcome s p))
+unfolding recordOutcome
+record-given s p =
+    let d = both-decided (coordinateOk (across s p)) (coordinateOk (up s p)) (coordinate-decided (across s p)) (coordinate-decided (up s p)) in
+    first-row _ Coordinate _ (First 11 ((16 < rank s p) ⊎ SpareSet s p) (λ k. k ≡ 0)) (λ e n. n (d .right e)) (d .wrong)
+    (first-row _ Record Done (λ k. k ≡ 0)
+    (λ e. ⊎-elim (λ l. not-le-of-lt l (leb-true (rank s p) 16 (and-left _ (spareOk s p) e))) (spare-right s p (and-right (leb (rank s p) 16) _ e)))
+    (λ e. ⊎-elim (λ t. inl (leb-false (rank s p) 16 t)) (λ t. inr (spare-wrong s p t)) (and-fails (leb (rank s p) 16) (spareOk s p) e))
+    refl)
+
+pub decode-given : (s : List ℕ) → DecodeGiven s (code (decodeOf s .outcome))
+unfolding decodeOutcome
+decode-given s =
+    let d = by-equal (length s) 16 in
+    rw (decode-outcome s) (first-row _ Length _ (RecordGiven s 0) (λ e n. n (d .right e)) (d .wrong) (record-given s 0))
+
+-- ---- a file
+one-more : (s : List ℕ) (n : ℕ) (p q : Outcome) → RecordsGiven s n (code p) → RecordGiven s (16 * n) (code q) → RecordsGiven s (suc n) (code (andThen p q))
+one-more s n (Refused r) q h g =
+    ⊎-elim
+    (λ f. inl (record { at = f .at; below = omega (arith, f .below); before = f .before; given = f .given; refused = f .refused }))
+    (λ z. absurd (numbered r (z .1)))
+    h
+one-more s n Done (Refused r) h g =
+    ⊎-elim
+    (λ f. absurd (f .refused refl))
+    (λ z. inl (record { at = n; below = omega arith; before = z .0; given = g; refused = numbered r }))
+    h
+one-more s n Done Done h g =
+    ⊎-elim
+    (λ f. absurd (f .refused refl))
+    (λ z. inr (λ i l. ⊎-elim (λ e. subst (λ (k : ℕ). RecordGiven s (16 * k) 0) (sym e) g) (λ m. z .0 i m) (eq-or-lt-of-le (le-of-suc-le-suc l)), refl))
+    h
+
+records-given : (s : List ℕ) (n : ℕ) → RecordsGiven s n (code (recordsOutcome s n))
+unfolding recordsOutcome
+records-given s zero = inr (λ i l. absurd (not-suc-le-zero l), refl)
+records-given s (suc n) = one-more s n (recordsOutcome s n) (recordOutcome s (16 * n)) (records-given s n) (record-given s (16 * n))
+
+pub file-given : (s : List ℕ) → FileGiven s (code (pauseLineOf s .outcome))
+unfolding fileOutcome fileLengthOk
+file-given s =
+    let n = length s / 16 in
+    rw (line-outcome s)
+    (first-row _ Length _ (RecordsGiven s n)
+    (λ e. ⊎-elim (λ m. m (eqb-true (length s % 16) 0 (and-left _ (leb n 4096) e))) (λ l. not-le-of-lt l (leb-true n 4096 (and-right (eqb (length s % 16) 0) _ e))))
+    (λ e. ⊎-elim (λ t. inl (eqb-false (length s % 16) 0 t)) (λ t. inr (leb-false n 4096 t)) (and-fails (eqb (length s % 16) 0) (leb n 4096) e))
+    (records-given s n))
+
+-- ---- the plain statements leave no choice: two numbers that one of them gives are equal
+record-one : (s : List ℕ) (p j k : ℕ) → RecordGiven s p j → RecordGiven s p k → j ≡ k
+record-one s p =
+    first-one 6 _ (First 11 ((16 < rank s p) ⊎ SpareSet s p) (λ k. k ≡ 0))
+    (first-one 11 ((16 < rank s p) ⊎ SpareSet s p) (λ k. k ≡ 0) (λ j k x y. x ∙ sym y))
+
+pub decode-one : (s : List ℕ) (j k : ℕ) → DecodeGiven s j → DecodeGiven s k → j ≡ k
+decode-one s = first-one 10 _ (RecordGiven s 0) (record-one s 0)
+
+refused-one : (s : List ℕ) (n j k : ℕ) → FirstRefused s n j → FirstRefused s n k → j ≡ k
+refused-one s n j k x y =
+    elim (decLe (y .at) (x .at)) [
+      | yes m ↦
+          ⊎-elim
+          (λ e. record-one s _ j k (x .given) (subst (λ (i : ℕ). RecordGiven s (16 * i) k) e (y .given)))
+          (λ l. absurd (y .refused (record-one s _ k 0 (y .given) (x .before (y .at) l))))
+          (eq-or-lt-of-le m)
+      | no m ↦ absurd (x .refused (record-one s _ j 0 (x .given) (y .before (x .at) (lt-of-not-le m))))
+    ]
+
+records-one : (s : List ℕ) (n j k : ℕ) → RecordsGiven s n j → RecordsGiven s n k → j ≡ k
+records-one s n j k x y =
+    ⊎-elim
+    (λ a. ⊎-elim (refused-one s n j k a) (λ b. absurd (a .refused (record-one s _ j 0 (a .given) (b .0 (a .at) (a .below))))) y)
+    (λ a. ⊎-elim (λ b. absurd (b .refused (record-one s _ k 0 (b .given) (a .0 (b .at) (b .below))))) (λ b. a .1 ∙ sym (b .1)) y)
+    x
+
+pub file-one : (s : List ℕ) (j k : ℕ) → FileGiven s j → FileGiven s k → j ≡ k
+file-one s = first-one 10 _ (RecordsGiven s (length s / 16)) (records-one s (length s / 16))

@@ -1,0 +1,4 @@
+pub mod Record
+pub mod Pause
+pub mod Plain
+pub mod Examples

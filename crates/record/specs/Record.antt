@@ -1,0 +1,59 @@
+-- The house record: 16 bytes, low byte first; 0-1 across, 2-3 up, 4-7 pause counter, 8 rank, 9-15 spare. Assumes nothing.
+use Prim.Native.Nat.{ℕ, _+_, _*_, _-_}
+use mathlib.Core.Bool.{Bool, _&&_, cond}
+use mathlib.Core.List.{List}
+use lib.Dec.{leb, ltb, eqb}
+use lib.IntN.{ℤ, pos, negsuc}
+use lib.ListN.{length, getD}
+use Rattle.refusal.specs.declared.Refusal.the-variants.{Coordinate, Length, Record}
+use Rattle.refusal.specs.declared.Outcome.{Outcome}
+use Rattle.refusal.specs.declared.Outcome.the-variants.{Done, Refused}
+use Rattle.refusal.specs.Check.{need, allBelow}
+use Rattle.geometry.specs.Coordinate.{coordinateOk}
+use Rattle.record.specs.declared.Decoded.{Decoded}
+
+-- two bytes from place p
+unfoldable pub word : List ℕ → ℕ → ℕ
+word s p = getD s p 0 + 256 * getD s (p + 1) 0
+
+-- 16 bits read as a signed number: below 32,768 itself, else itself less 65,536 (`negsuc n` is -(n + 1))
+unfoldable pub signed : ℕ → ℤ
+signed u = cond (ltb u 32768) (pos u) (negsuc (65535 - u))
+
+unfoldable pub signedAt : List ℕ → ℕ → ℤ
+signedAt s p = signed (word s p)
+
+-- the fields of the record at place p
+abbrev pub across : List ℕ → ℕ → ℤ
+across s p = signedAt s p
+
+abbrev pub up : List ℕ → ℕ → ℤ
+up s p = signedAt s (p + 2)
+
+unfoldable pub counter : List ℕ → ℕ → ℕ
+counter s p = word s (p + 4) + 65536 * word s (p + 6)
+
+abbrev pub rank : List ℕ → ℕ → ℕ
+rank s p = getD s (p + 8) 0
+
+-- its seven spare bytes are zero
+unfoldable pub spareOk : List ℕ → ℕ → Bool
+spareOk s p = allBelow 7 (λ k. eqb (getD s (p + 9 + k) 0) 0)
+
+-- the record at place p: 6, then 11
+unfoldable pub recordOutcome : List ℕ → ℕ → Outcome
+recordOutcome s p =
+    need (coordinateOk (across s p) && coordinateOk (up s p)) (Refused Coordinate)
+    (need (leb (rank s p) 16 && spareOk s p) (Refused Record) Done)
+
+-- one record alone: 10, then 6, then 11
+unfoldable pub decodeOutcome : List ℕ → Outcome
+decodeOutcome s = need (eqb (length s) 16) (Refused Length) (recordOutcome s 0)
+
+-- what the record at place p says where nothing was refused, else zeros
+abbrev pub decodedBy : Outcome → List ℕ → ℕ → Decoded
+decodedBy Done s p = record { outcome = Done; across = across s p; up = up s p; pause = counter s p; rank = rank s p }
+decodedBy (Refused r) s p = record { outcome = Refused r; across = pos 0; up = pos 0; pause = 0; rank = 0 }
+
+unfoldable pub decodeOf : List ℕ → Decoded
+decodeOf s = decodedBy (decodeOutcome s) s 0

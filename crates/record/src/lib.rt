@@ -1,0 +1,269 @@
+// The house record of 16 bytes, low byte first, and the day's pause line of a file of records.
+ghost use mathlib.Core.Path.{_≡_};
+ghost use Prim.Native.Nat.{_+_, _*_, _≤_, _<_};
+ghost use lib.ListN.{length};
+ghost use Rattle.geometry.specs.Coordinate.{coordinateOk};
+ghost use Rattle.record.specs.Record.{signedAt, word, counter, spareOk, recordOutcome, decodeOutcome, decodeOf};
+ghost use Rattle.record.specs.Pause.{fileLengthOk, recordBytes, recordsOutcome, fileOutcome, increase, increaseAt, pauseSum, pauseLineOf};
+use geometry::coordinate_ok;
+use refusal::Outcome;
+use refusal::Refusal;
+
+// The bytes of a record, and the records of a file at most.
+pub const RECORD_BYTES: usize = 16;
+
+pub const RECORDS_MOST: usize = 4096;
+
+// The highest rank.
+pub const RANK_MOST: u8 = 16;
+
+// Where the fields after `across` stand in a record.
+const UP: usize = 2;
+
+const PAUSE: usize = 4;
+
+const PAUSE_HIGH: usize = 6;
+
+const RANK: usize = 8;
+
+const SPARE: usize = 9;
+
+const SPARE_BYTES: usize = 7;
+
+// What one house record says; on refusal every field is zero.
+pub struct Decoded {
+    pub outcome: Outcome,
+    pub across: i16,
+    pub up: i16,
+    pub pause: u32,
+    pub rank: u8,
+}
+
+// The pause line in milliseconds; on refusal the sum is zero.
+pub struct PauseLine {
+    pub outcome: Outcome,
+    pub sum: u64,
+}
+
+// Two bytes from place p, low first.
+fn word_at(s: &[u8], p: usize) -> u16
+    requires { ⌜ p + 1 < length (now s) ⌝ }
+    ensures { λ r. ⌜ r ≡ word (now (s .entry)) p ⌝ }
+{
+    let low = s[p];
+    let high = s[p + 1];
+    low as u16 + 256 * (high as u16)
+}
+
+// Two bytes from place p as a signed number.
+fn signed_at(s: &[u8], p: usize) -> i16
+    requires { ⌜ p + 1 < length (now s) ⌝ }
+    ensures { λ r. ⌜ r ≡ signedAt (now (s .entry)) p ⌝ }
+{
+    let u = word_at(s, p);
+    if u < 32768 {
+        u as i16
+    } else {
+        -1 - ((65535 - u) as i16)
+    }
+}
+
+// Whether the coordinate at place p is in range.
+fn in_range_at(s: &[u8], p: usize) -> bool
+    requires { ⌜ p + 1 < length (now s) ⌝ }
+    ensures { λ r. ⌜ r ≡ coordinateOk (signedAt (now (s .entry)) p) ⌝ }
+{
+    coordinate_ok(signed_at(s, p))
+}
+
+// The pause counter of the record at place p.
+fn counter_at(s: &[u8], p: usize) -> u32
+    requires { ⌜ p + 16 ≤ length (now s) ⌝ }
+    ensures { λ r. ⌜ r ≡ counter (now (s .entry)) p ⌝ }
+{
+    let low = word_at(s, p + PAUSE);
+    let high = word_at(s, p + PAUSE_HIGH);
+    low as u32 + 65536 * (high as u32)
+}
+
+// Whether the spare bytes of the record at place p are zero.
+fn spare_ok(s: &[u8], p: usize) -> bool
+    requires { ⌜ p + 16 ≤ length (now s) ⌝ }
+    ensures { λ r. ⌜ r ≡ spareOk (now (s .entry)) p ⌝ }
+{
+    let mut k = 0;
+    while k < SPARE_BYTES {
+        if s[p + SPARE + k] != 0 {
+            return false;
+        }
+        k += 1;
+    }
+    true
+}
+
+// The record at place p: 6, then 11.
+fn record_outcome(s: &[u8], p: usize) -> Outcome
+    requires { ⌜ p + 16 ≤ length (now s) ⌝ }
+    ensures { λ r. ⌜ r ≡ recordOutcome (now (s .entry)) p ⌝ }
+{
+    if !in_range_at(s, p) {
+        return Outcome::Refused(Refusal::Coordinate);
+    }
+    if !in_range_at(s, p + UP) {
+        return Outcome::Refused(Refusal::Coordinate);
+    }
+    if RANK_MOST < s[p + RANK] {
+        return Outcome::Refused(Refusal::Record);
+    }
+    if !spare_ok(s, p) {
+        return Outcome::Refused(Refusal::Record);
+    }
+    Outcome::Done
+}
+
+// One record alone: 10, then 6 and 11.
+fn decode_outcome(s: &[u8]) -> Outcome
+    ensures { λ r. ⌜ r ≡ decodeOutcome (now (s .entry)) ⌝ }
+{
+    if s.len() != RECORD_BYTES {
+        return Outcome::Refused(Refusal::Length);
+    }
+    record_outcome(s, 0)
+}
+
+// One house record.
+pub fn decode(record: &[u8]) -> Decoded
+    ensures { λ r. ⌜ r ≡ decodeOf (now («record» .entry)) ⌝ }
+{
+    let o = decode_outcome(record);
+    match o {
+        Outcome::Done => {
+            let across = signed_at(record, 0);
+            let up = signed_at(record, UP);
+            let pause = counter_at(record, 0);
+            let rank = record[RANK];
+            Decoded {
+                outcome: Outcome::Done,
+                across,
+                up,
+                pause,
+                rank,
+            }
+        }
+        Outcome::Refused(r) => Decoded {
+            outcome: Outcome::Refused(r),
+            across: 0,
+            up: 0,
+            pause: 0,
+            rank: 0,
+        },
+    }
+}
+
+// The bytes of record i of a file, and none where there is no such record.
+pub fn record_of(file: &[u8], i: usize) -> &[u8]
+    ensures { λ r. ⌜ now r ≡ recordBytes (now (file .entry)) i ⌝ }
+{
+    if i < file.len() / RECORD_BYTES {
+        &file[RECORD_BYTES * i..RECORD_BYTES * i + RECORD_BYTES]
+    } else {
+        &file[0..0]
+    }
+}
+
+// Whole records, and not too many.
+fn file_ok(len: usize) -> bool
+    ensures { λ r. ⌜ r ≡ fileLengthOk len ⌝ }
+{
+    if len % RECORD_BYTES != 0 {
+        return false;
+    }
+    len / RECORD_BYTES <= RECORDS_MOST
+}
+
+// The first refusal of the first n records.
+fn records_outcome(s: &[u8], n: usize) -> Outcome
+    requires { ⌜ 16 * n ≤ length (now s) ⌝ }
+    ensures { λ r. ⌜ r ≡ recordsOutcome (now (s .entry)) n ⌝ }
+{
+    let mut i = 0;
+    while i < n {
+        let o = record_outcome(s, RECORD_BYTES * i);
+        match o {
+            Outcome::Done => {}
+            Outcome::Refused(r) => {
+                return Outcome::Refused(r);
+            }
+        }
+        i += 1;
+    }
+    Outcome::Done
+}
+
+// The file: 10 for the whole, then 6 and 11 of each record in file order.
+fn file_outcome(s: &[u8]) -> Outcome
+    ensures { λ r. ⌜ r ≡ fileOutcome (now (s .entry)) ⌝ }
+{
+    if !file_ok(s.len()) {
+        return Outcome::Refused(Refusal::Length);
+    }
+    records_outcome(s, s.len() / RECORD_BYTES)
+}
+
+// What a counter adds after an earlier one: a lower one means a restart.
+fn increase_of(earlier: u32, later: u32) -> u32
+    ensures { λ r. ⌜ r ≡ increase earlier later ⌝ }
+{
+    if later < earlier {
+        return later;
+    }
+    later - earlier
+}
+
+// What record n adds to the line.
+fn increase_at(s: &[u8], n: usize) -> u32
+    requires { ⌜ 16 * n + 16 ≤ length (now s) ⌝ }
+    ensures { λ r. ⌜ r ≡ increaseAt (now (s .entry)) n ⌝ }
+{
+    if n == 0 {
+        return 0;
+    }
+    let earlier = counter_at(s, RECORD_BYTES * (n - 1));
+    let later = counter_at(s, RECORD_BYTES * n);
+    increase_of(earlier, later)
+}
+
+// What the first n records add.
+fn pause_sum(s: &[u8], n: usize) -> u64
+    requires { ⌜ (16 * n ≤ length (now s)) × (n ≤ 4096) ⌝ }
+    ensures { λ r. ⌜ r ≡ pauseSum (now (s .entry)) n ⌝ }
+{
+    let mut sum: u64 = 0;
+    let mut i = 0;
+    while i < n {
+        let more = increase_at(s, i);
+        sum += more as u64;
+        i += 1;
+    }
+    sum
+}
+
+// The day's pause line of a file of records.
+pub fn pause_line(records: &[u8]) -> PauseLine
+    ensures { λ r. ⌜ r ≡ pauseLineOf (now (records .entry)) ⌝ }
+{
+    let o = file_outcome(records);
+    match o {
+        Outcome::Done => {
+            let sum = pause_sum(records, records.len() / RECORD_BYTES);
+            PauseLine {
+                outcome: Outcome::Done,
+                sum,
+            }
+        }
+        Outcome::Refused(r) => PauseLine {
+            outcome: Outcome::Refused(r),
+            sum: 0,
+        },
+    }
+}
