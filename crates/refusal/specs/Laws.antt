@@ -2,9 +2,10 @@
 use mathlib.Core.Path.{_≡_, refl, sym, subst}
 use mathlib.Core.Logic.{_⊎_, inl, inr, ⊎-elim}
 use mathlib.Core.Bool.{Bool, true, false, _&&_, true≢false}
-use Prim.Native.Nat.{ℕ, zero, suc, _<_}
+use Prim.Native.Nat.{ℕ, zero, suc, _+_, _≤_, _<_, zero-le}
 use native.Mathlib.Nat.{not-suc-le-zero, le-of-suc-le-suc, eq-or-lt-of-le}
 use native.Mathlib.Omega.{arith}
+use borrow.Author.Count.{below-more}
 use Rattle.refusal.specs.declared.Refusal.{Refusal}
 use Rattle.refusal.specs.declared.Outcome.{Outcome}
 use Rattle.refusal.specs.declared.Outcome.the-variants.{Done, Refused}
@@ -57,6 +58,20 @@ all-at (suc n) f p k l =
     ⊎-elim (λ e. subst (λ (i : ℕ). f i ≡ true) (sym e) (and-right (allBelow n f) (f n) p))
     (λ lt. all-at n f (and-left (allBelow n f) (f n) p) k lt)
     (eq-or-lt-of-le (le-of-suc-le-suc l))
+
+-- a loop that tests the numbers below n in turn: those below k have passed
+pub record Passed (n : ℕ) (f : ℕ → Bool) (k : ℕ) : Type 0 where
+  pub upto : k ≤ n
+  pub each : (x : ℕ) → x < k → f x ≡ true
+
+pub passed-none : {n : ℕ} {f : ℕ → Bool} → Passed n f 0
+passed-none = record { upto = zero-le; each = λ x l. absurd (not-suc-le-zero l) }
+
+pub passed-more : {n : ℕ} {f : ℕ → Bool} {k : ℕ} → Passed n f k → k < n → f k ≡ true → Passed n f (k + 1)
+passed-more {n} {f} {k} p h e = record { upto = omega arith; each = below-more (λ (x : ℕ). f x ≡ true) k (p .each) e }
+
+pub passed-all : {n : ℕ} {f : ℕ → Bool} {k : ℕ} → Passed n f k → n ≤ k → allBelow n f ≡ true
+passed-all {n} {f} p h = all-yes n f (λ x l. p .each x (omega arith))
 
 -- where not every number below n passes, one fails
 pub record Fails (n : ℕ) (f : ℕ → Bool) : Type 0 where

@@ -1,13 +1,10 @@
 -- `geometry::coordinates_ok` meets its contract. The loop's invariant: every coordinate passed is in range. Assumes nothing.
 use mathlib.Core.Path.{_≡_, sym, _∙_}
-use mathlib.Core.Bool.{true}
-use Prim.Native.Nat.{ℕ, _-_, _≤_, _<_}
-use native.Mathlib.Nat.{not-suc-le-zero}
+use Prim.Native.Nat.{_-_}
 use native.Mathlib.Omega.{arith}
 use lib.ListN.{getD}
-use borrow.Author.Count.{below-more}
 use borrow.Author.Tests.{not-true, not-false}
-use Rattle.refusal.specs.Laws.{all-yes, all-no}
+use Rattle.refusal.specs.Laws.{all-no, Passed, passed-none, passed-more, passed-all}
 use lib.IntN.{pos}
 use Rattle.geometry.specs.Coordinate.{coordinateOk, coordinatesOk}
 use Rattle.geometry.proofs.Coordinate.{coordinate-back}
@@ -16,7 +13,7 @@ use Rattle.geometry.proofs.coordinates_ok.Statement.{statement}
 use Rattle.geometry.proofs.coordinates_ok.Tie as tie
 
 abbrev Inv-loop : tie.InvT-loop
-Inv-loop s n k₀ k = (k ≤ n) × ((j : ℕ) → j < k → coordinateOk (getD s j (pos 0)) ≡ true)
+Inv-loop s n k₀ k = Passed n (λ j. coordinateOk (getD s j (pos 0))) k
 
 abbrev μ-loop : tie.MeasureT-loop
 μ-loop s n k₀ k = n - k
@@ -27,7 +24,7 @@ said : (c : tie.After-coordinate-ok Inv-loop μ-loop) →
 said c = coordinate-back _ (c .before .x .given) (c .coordinate-ok .ensures)
 
 loop-holds : tie.Need-loop-holds Inv-loop μ-loop
-loop-holds c = (omega arith, λ j l. absurd (not-suc-le-zero l))
+loop-holds c = passed-none
 
 mul-x : tie.Need-mul-x Inv-loop μ-loop
 mul-x c = omega arith
@@ -40,10 +37,7 @@ coordinate-ok-requires c κs = search needs
 
 returns : tie.Need-returns Inv-loop μ-loop
 unfolding coordinatesOk
-returns c =
-    let a = c .before .before .before .before .before .args in
-    let d = c .before .before .before .before .loop in
-    sym (all-no (a .n) (d .k) (λ k. coordinateOk (getD (a .s .now) k (pos 0))) (omega arith) (said (c .before) ∙ not-true _ (c .if1 .taken)))
+returns c = sym (all-no _ (c .before .before .before .before .loop .k) _ (omega arith) (said (c .before) ∙ not-true _ (c .if1 .taken)))
 
 add-k : tie.Need-add-k Inv-loop μ-loop
 add-k c = omega arith
@@ -52,16 +46,11 @@ loop-less : tie.Need-loop-less Inv-loop μ-loop
 loop-less c = omega arith
 
 loop-again : tie.Need-loop-again Inv-loop μ-loop
-loop-again c =
-    let a = c .before .before .before .before .before .args in
-    let d = c .before .before .before .before .loop in
-    (omega arith, below-more (λ (k : ℕ). coordinateOk (getD (a .s .now) k (pos 0)) ≡ true) (d .k) (d .inv .1) (said (c .before) ∙ not-false _ (c .if1 .left)))
+loop-again c = passed-more (c .before .before .before .before .loop .inv) (omega arith) (said (c .before) ∙ not-false _ (c .if1 .left))
 
 returns-2 : tie.Need-returns-2 Inv-loop μ-loop
 unfolding coordinatesOk
-returns-2 c =
-    let a = c .before .before .args in
-    sym (all-yes (a .n) (λ k. coordinateOk (getD (a .s .now) k (pos 0))) (λ k l. c .before .loop .inv .1 k (omega arith)))
+returns-2 c = sym (passed-all (c .before .loop .inv) (omega arith))
 
 pub coordinates-ok-spec : {M : Type 1} → statement M
 coordinates-ok-spec =

@@ -1,26 +1,23 @@
 -- `record::spare_ok` meets its contract. The loop's invariant: every spare byte passed is zero. Assumes nothing.
-use mathlib.Core.Path.{_≡_, sym}
-use mathlib.Core.Bool.{true}
-use Prim.Native.Nat.{ℕ, _+_, _-_, _≤_, _<_}
-use native.Mathlib.Nat.{not-suc-le-zero}
+use mathlib.Core.Path.{sym}
+use Prim.Native.Nat.{_+_, _-_}
 use native.Mathlib.Omega.{arith}
-use borrow.Author.Count.{below-more}
 use borrow.Author.Tests.{eq-eqb, ne-eqb}
 use lib.Dec.{eqb}
 use lib.ListN.{getD}
 use Rattle.record.specs.Record.{spareOk}
-use Rattle.refusal.specs.Laws.{all-yes, all-no}
+use Rattle.refusal.specs.Laws.{all-no, Passed, passed-none, passed-more, passed-all}
 use Rattle.record.proofs.spare_ok.Statement.{statement}
 use Rattle.record.proofs.spare_ok.Tie as tie
 
 abbrev Inv-loop : tie.InvT-loop
-Inv-loop s p k₀ k = (k ≤ 7) × ((j : ℕ) → j < k → eqb (getD s (p + 9 + j) 0) 0 ≡ true)
+Inv-loop s p k₀ k = Passed 7 (λ j. eqb (getD s (p + 9 + j) 0) 0) k
 
 abbrev μ-loop : tie.MeasureT-loop
 μ-loop s p k₀ k = 7 - k
 
 loop-holds : tie.Need-loop-holds Inv-loop μ-loop
-loop-holds c = (omega arith, λ j l. absurd (not-suc-le-zero l))
+loop-holds c = passed-none
 
 add-if1 : tie.Need-add-if1 Inv-loop μ-loop
 add-if1 c = omega arith
@@ -33,10 +30,7 @@ shared-slice-read-if1 c = omega arith
 
 returns : tie.Need-returns Inv-loop μ-loop
 unfolding spareOk
-returns c =
-    let a = c .before .before .before .before .args in
-    let k = c .before .before .before .loop .k in
-    sym (all-no 7 k (λ j. eqb (getD (a .s .now) (a .p + 9 + j) 0) 0) (omega arith) (ne-eqb _ _ (c .if1 .taken)))
+returns c = sym (all-no 7 (c .before .before .before .loop .k) _ (omega arith) (ne-eqb _ _ (c .if1 .taken)))
 
 add-k : tie.Need-add-k Inv-loop μ-loop
 add-k c = omega arith
@@ -45,16 +39,11 @@ loop-less : tie.Need-loop-less Inv-loop μ-loop
 loop-less c = omega arith
 
 loop-again : tie.Need-loop-again Inv-loop μ-loop
-loop-again c =
-    let a = c .before .before .before .before .args in
-    let k = c .before .before .before .loop .k in
-    (omega arith, below-more (λ (j : ℕ). eqb (getD (a .s .now) (a .p + 9 + j) 0) 0 ≡ true) k (c .before .before .before .loop .inv .1) (eq-eqb _ _ (c .if1 .left)))
+loop-again c = passed-more (c .before .before .before .loop .inv) (omega arith) (eq-eqb _ _ (c .if1 .left))
 
 returns-2 : tie.Need-returns-2 Inv-loop μ-loop
 unfolding spareOk
-returns-2 c =
-    let a = c .before .before .args in
-    sym (all-yes 7 (λ j. eqb (getD (a .s .now) (a .p + 9 + j) 0) 0) (λ j l. c .before .loop .inv .1 j (omega arith)))
+returns-2 c = sym (passed-all (c .before .loop .inv) (omega arith))
 
 pub spare-ok-spec : {M : Type 1} → statement M
 spare-ok-spec =

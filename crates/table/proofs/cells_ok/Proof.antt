@@ -1,25 +1,22 @@
 -- `table::cells_ok` meets its contract. The loop's invariant: every level passed may hold what it holds. Assumes nothing.
-use mathlib.Core.Path.{_≡_, sym, _∙_}
-use mathlib.Core.Bool.{true}
-use Prim.Native.Nat.{ℕ, _+_, _-_, _≤_, _<_}
-use native.Mathlib.Nat.{not-suc-le-zero}
+use mathlib.Core.Path.{sym, _∙_}
+use Prim.Native.Nat.{_+_, _-_}
 use native.Mathlib.Omega.{arith}
-use borrow.Author.Count.{below-more}
 use borrow.Author.Tests.{not-true, not-false}
-use Rattle.refusal.specs.Laws.{all-yes, all-no}
+use Rattle.refusal.specs.Laws.{all-no, Passed, passed-none, passed-more, passed-all}
 use Rattle.table.specs.Check.{levelOk, cellsOk}
 use Rattle.table.proofs.Address.{room-below}
 use Rattle.table.proofs.cells_ok.Statement.{statement}
 use Rattle.table.proofs.cells_ok.Tie as tie
 
 abbrev Inv-loop : tie.InvT-loop
-Inv-loop table cap held m l₀ l = (l ≤ m) × ((x : ℕ) → x < l → levelOk table cap held (x + 1) ≡ true)
+Inv-loop table cap held m l₀ l = Passed m (λ x. levelOk table cap held (x + 1)) l
 
 abbrev μ-loop : tie.MeasureT-loop
 μ-loop table cap held m l₀ l = m - l
 
 loop-holds : tie.Need-loop-holds Inv-loop μ-loop
-loop-holds c = (omega arith, λ x h. absurd (not-suc-le-zero h))
+loop-holds c = passed-none
 
 add-level-ok : tie.Need-add-level-ok Inv-loop μ-loop
 add-level-ok c = omega arith
@@ -31,10 +28,7 @@ level-ok-requires c κs =
 
 returns : tie.Need-returns Inv-loop μ-loop
 unfolding cellsOk
-returns c =
-    let a = c .before .before .before .before .before .args in
-    let d = c .before .before .before .loop in
-    sym (all-no (a .m) (d .l) (λ x. levelOk (a .table .now) (a .cap) (a .held) (x + 1)) (omega arith) (sym (c .before .level-ok .ensures) ∙ not-true _ (c .if1 .taken)))
+returns c = sym (all-no _ (c .before .before .before .loop .l) _ (omega arith) (sym (c .before .level-ok .ensures) ∙ not-true _ (c .if1 .taken)))
 
 add-l : tie.Need-add-l Inv-loop μ-loop
 add-l c = omega arith
@@ -43,16 +37,11 @@ loop-less : tie.Need-loop-less Inv-loop μ-loop
 loop-less c = omega arith
 
 loop-again : tie.Need-loop-again Inv-loop μ-loop
-loop-again c =
-    let a = c .before .before .before .before .before .args in
-    let d = c .before .before .before .loop in
-    (omega arith, below-more (λ (x : ℕ). levelOk (a .table .now) (a .cap) (a .held) (x + 1) ≡ true) (d .l) (d .inv .1) (sym (c .before .level-ok .ensures) ∙ not-false _ (c .if1 .left)))
+loop-again c = passed-more (c .before .before .before .loop .inv) (omega arith) (sym (c .before .level-ok .ensures) ∙ not-false _ (c .if1 .left))
 
 returns-2 : tie.Need-returns-2 Inv-loop μ-loop
 unfolding cellsOk
-returns-2 c =
-    let a = c .before .before .before .args in
-    sym (all-yes (a .m) (λ x. levelOk (a .table .now) (a .cap) (a .held) (x + 1)) (λ x h. c .before .loop .inv .1 x (omega arith)))
+returns-2 c = sym (passed-all (c .before .loop .inv) (omega arith))
 
 pub cells-ok-spec : {M : Type 1} → statement M
 cells-ok-spec =

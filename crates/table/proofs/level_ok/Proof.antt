@@ -1,13 +1,10 @@
 -- `table::level_ok` meets its contract. The loop's invariant: every row passed may hold what it holds. Assumes nothing.
 use mathlib.Core.Path.{_≡_, sym, ap, _∙_}
-use mathlib.Core.Bool.{true}
-use Prim.Native.Nat.{ℕ, _+_, _-_, _≤_, _<_}
-use native.Mathlib.Nat.{not-suc-le-zero}
+use Prim.Native.Nat.{ℕ, _+_, _-_, _<_}
 use native.Mathlib.Omega.{arith}
 use lib.ListN.{length}
-use borrow.Author.Count.{below-more}
 use borrow.Author.Tests.{not-true, not-false}
-use Rattle.refusal.specs.Laws.{all-yes, all-no}
+use Rattle.refusal.specs.Laws.{all-no, Passed, passed-none, passed-more, passed-all}
 use Rattle.table.specs.Table.{at}
 use Rattle.table.specs.Check.{rowOk, levelOk}
 use Rattle.table.proofs.Address.{at-in}
@@ -15,7 +12,7 @@ use Rattle.table.proofs.level_ok.Statement.{statement}
 use Rattle.table.proofs.level_ok.Tie as tie
 
 abbrev Inv-loop : tie.InvT-loop
-Inv-loop table cap held k i₀ i = (i ≤ held - 1) × ((x : ℕ) → x < i → rowOk table (at cap k x (x + 1)) k (held - (x + 1)) ≡ true)
+Inv-loop table cap held k i₀ i = Passed (held - 1) (λ x. rowOk table (at cap k x (x + 1)) k (held - (x + 1))) i
 
 abbrev μ-loop : tie.MeasureT-loop
 μ-loop table cap held k i₀ i = held - i
@@ -31,7 +28,7 @@ said c =
     ap (λ (b : ℕ). rowOk (a .table .now) b (a .k) (a .held - (i + 1))) (sym (c .before .cell-at .ensures .0)) ∙ sym (c .row-ok .ensures)
 
 loop-holds : tie.Need-loop-holds Inv-loop μ-loop
-loop-holds c = (omega arith, λ x l. absurd (not-suc-le-zero l))
+loop-holds c = passed-none
 
 add-loop : tie.Need-add-loop Inv-loop μ-loop
 add-loop c = omega arith
@@ -58,10 +55,7 @@ row-ok-requires c κs =
 
 returns : tie.Need-returns Inv-loop μ-loop
 unfolding levelOk
-returns c =
-    let a = c .before .before .before .before .before .before .args in
-    let d = c .before .before .before .before .loop in
-    sym (all-no (a .held - 1) (d .i) (λ i. rowOk (a .table .now) (at (a .cap) (a .k) i (i + 1)) (a .k) (a .held - (i + 1))) (omega arith) (said (c .before) ∙ not-true _ (c .if1 .taken)))
+returns c = sym (all-no _ (c .before .before .before .before .loop .i) _ (omega arith) (said (c .before) ∙ not-true _ (c .if1 .taken)))
 
 add-i : tie.Need-add-i Inv-loop μ-loop
 add-i c = omega arith
@@ -70,16 +64,11 @@ loop-less : tie.Need-loop-less Inv-loop μ-loop
 loop-less c = omega arith
 
 loop-again : tie.Need-loop-again Inv-loop μ-loop
-loop-again c =
-    let a = c .before .before .before .before .before .before .args in
-    let d = c .before .before .before .before .loop in
-    (omega arith, below-more (λ (i : ℕ). rowOk (a .table .now) (at (a .cap) (a .k) i (i + 1)) (a .k) (a .held - (i + 1)) ≡ true) (d .i) (d .inv .1) (said (c .before) ∙ not-false _ (c .if1 .left)))
+loop-again c = passed-more (c .before .before .before .before .loop .inv) (omega arith) (said (c .before) ∙ not-false _ (c .if1 .left))
 
 returns-2 : tie.Need-returns-2 Inv-loop μ-loop
 unfolding levelOk
-returns-2 c =
-    let a = c .before .before .before .args in
-    sym (all-yes (a .held - 1) (λ i. rowOk (a .table .now) (at (a .cap) (a .k) i (i + 1)) (a .k) (a .held - (i + 1))) (λ x l. c .before .loop .inv .1 x (omega arith)))
+returns-2 c = sym (passed-all (c .before .loop .inv) (omega arith))
 
 pub level-ok-spec : {M : Type 1} → statement M
 level-ok-spec =

@@ -1,25 +1,22 @@
 -- `table::row_ok` meets its contract. The loop's invariant: every cell passed may hold what it holds. Assumes nothing.
-use mathlib.Core.Path.{_≡_, sym, _∙_}
-use mathlib.Core.Bool.{true}
-use Prim.Native.Nat.{ℕ, _+_, _-_, _≤_, _<_}
-use native.Mathlib.Nat.{not-suc-le-zero}
+use mathlib.Core.Path.{sym, _∙_}
+use Prim.Native.Nat.{_+_, _-_}
 use native.Mathlib.Omega.{arith}
 use lib.ListN.{getD}
-use borrow.Author.Count.{below-more}
 use borrow.Author.Tests.{not-true, not-false}
-use Rattle.refusal.specs.Laws.{all-yes, all-no}
+use Rattle.refusal.specs.Laws.{all-no, Passed, passed-none, passed-more, passed-all}
 use Rattle.table.specs.Check.{cellOk, rowOk}
 use Rattle.table.proofs.row_ok.Statement.{statement}
 use Rattle.table.proofs.row_ok.Tie as tie
 
 abbrev Inv-loop : tie.InvT-loop
-Inv-loop table base k count d₀ d = (d ≤ count) × ((x : ℕ) → x < d → cellOk k (x + 1) (getD table (base + x) 0) ≡ true)
+Inv-loop table base k count d₀ d = Passed count (λ x. cellOk k (x + 1) (getD table (base + x) 0)) d
 
 abbrev μ-loop : tie.MeasureT-loop
 μ-loop table base k count d₀ d = count - d
 
 loop-holds : tie.Need-loop-holds Inv-loop μ-loop
-loop-holds c = (omega arith, λ x l. absurd (not-suc-le-zero l))
+loop-holds c = passed-none
 
 add-cell-ok : tie.Need-add-cell-ok Inv-loop μ-loop
 add-cell-ok c = omega arith
@@ -38,10 +35,7 @@ cell-ok-requires c κs = omega arith
 
 returns : tie.Need-returns Inv-loop μ-loop
 unfolding rowOk
-returns c =
-    let a = c .before .before .before .before .before .before .args in
-    let d = c .before .before .before .before .loop in
-    sym (all-no (a .count) (d .d) (λ x. cellOk (a .k) (x + 1) (getD (a .table .now) (a .base + x) 0)) (omega arith) (sym (c .before .cell-ok .ensures) ∙ not-true _ (c .if1 .taken)))
+returns c = sym (all-no _ (c .before .before .before .before .loop .d) _ (omega arith) (sym (c .before .cell-ok .ensures) ∙ not-true _ (c .if1 .taken)))
 
 add-d : tie.Need-add-d Inv-loop μ-loop
 add-d c = omega arith
@@ -50,16 +44,11 @@ loop-less : tie.Need-loop-less Inv-loop μ-loop
 loop-less c = omega arith
 
 loop-again : tie.Need-loop-again Inv-loop μ-loop
-loop-again c =
-    let a = c .before .before .before .before .before .before .args in
-    let d = c .before .before .before .before .loop in
-    (omega arith, below-more (λ (x : ℕ). cellOk (a .k) (x + 1) (getD (a .table .now) (a .base + x) 0) ≡ true) (d .d) (d .inv .1) (sym (c .before .cell-ok .ensures) ∙ not-false _ (c .if1 .left)))
+loop-again c = passed-more (c .before .before .before .before .loop .inv) (omega arith) (sym (c .before .cell-ok .ensures) ∙ not-false _ (c .if1 .left))
 
 returns-2 : tie.Need-returns-2 Inv-loop μ-loop
 unfolding rowOk
-returns-2 c =
-    let a = c .before .before .before .args in
-    sym (all-yes (a .count) (λ x. cellOk (a .k) (x + 1) (getD (a .table .now) (a .base + x) 0)) (λ x l. c .before .loop .inv .1 x (omega arith)))
+returns-2 c = sym (passed-all (c .before .loop .inv) (omega arith))
 
 pub row-ok-spec : {M : Type 1} → statement M
 row-ok-spec =
