@@ -1,0 +1,6 @@
+mod Scan
+mod Marks
+mod Lay
+mod Down
+mod Count
+pub mod Unique
