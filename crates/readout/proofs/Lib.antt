@@ -4,3 +4,4 @@ mod Lay
 mod Down
 mod Count
 pub mod Unique
+pub mod Meaning

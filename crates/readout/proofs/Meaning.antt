@@ -1,0 +1,41 @@
+-- What a read-out means in the paper's words: of a table that passes check 5, and of a table of costs. Assumes nothing.
+use mathlib.Core.Path.{_≡_, _∙_}
+use mathlib.Core.Bool.{Bool, true}
+use mathlib.Core.List.{List}
+use Prim.Native.Nat.{ℕ, suc, _-_, _*_, _≤_, _<_, zero-le}
+use native.Mathlib.Omega.{arith}
+use lib.ListN.{length, getD}
+use Rattle.refusal.specs.Check.{Decides}
+use Rattle.family.specs.Family.{none}
+use Rattle.family.specs.Fine.{Checked}
+use Rattle.family.specs.Path.{ReadsBest}
+use Rattle.family.specs.Levels as Levels
+use Rattle.family.specs.Levels.{levels, size}
+use Rattle.family.proofs.Checks.{room, checked-most}
+use Rattle.family.proofs.Foreign.{readout-best}
+use Rattle.family.proofs.Levels.{levels-segments, levels-total}
+use Rattle.family.proofs.Promise.{read-promised}
+use Rattle.table.specs.Table.{cell}
+use Rattle.readout.specs.Read.{rank, ReadBy}
+
+module _ (t : List ℕ) (N m n : ℕ) (r e per : List ℕ) (sum : ℕ) (R : ReadBy t N m n r e per sum) (some : 0 < n) where
+  -- the list of level k
+  abbrev level : ℕ → List ℕ
+  level = levels (rank e) 0 (n - 1)
+
+  -- the counts are those of the lists of sample numbers
+  pub read-counts : (k : ℕ) → 1 ≤ k → k ≤ m → getD per (k - 1) 0 ≡ length (level k) - 1
+  read-counts k a b = R .counts .level k a b ∙ levels-segments (rank e) k 0 (n - 1) zero-le (omega (arith, R .ranks .readout .first))
+
+  pub read-total : sum ≡ size level m
+  read-total = R .counts .all ∙ levels-total (rank e) m 0 (n - 1) zero-le (omega (arith, R .ranks .readout .first))
+
+  -- of any table that passes check 5 each level is the best path between neighbours of the level above
+  pub read-best : 1 ≤ m → m ≤ 16 → n ≤ 256 → Checked (cell t N) m n → ReadsBest (cell t N) m n (rank e)
+  read-best a b h C = readout-best (cell t N) m n (checked-most (cell t N) m n C) (room m n b h) a some (rank e) (R .ranks .readout)
+
+  -- of a table whose every cell is the cost, the chosen one of the minimal families is written
+  pub read-chosen : (Permit : ℕ → ℕ → ℕ → Type 0) (perm : ℕ → ℕ → ℕ → Bool) → ((k i : ℕ) → perm k i (suc i) ≡ true) → m * n < none
+      → ((k i j : ℕ) → 1 ≤ k → k ≤ m → i < j → j < n → Decides (Permit k i j) (perm k i j))
+      → Levels.Costs Permit (cell t N) m n → Levels.Chosen Permit m 0 (n - 1) level
+  read-chosen Permit perm near fits decides C = read-promised Permit perm near m n fits decides (cell t N) some C (rank e) (R .ranks .readout)
