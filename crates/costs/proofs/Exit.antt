@@ -1,0 +1,98 @@
+-- What is known of the table after a call about sample v: it is the only one, its cells stay the costs, and it passes check 5 again. Assumes nothing.
+use mathlib.Core.Path.{_≡_, refl, sym, _∙_}
+use mathlib.Core.Logic.{_⊎_, inl, inr, ⊎-elim}
+use mathlib.Core.Bool.{Bool, true, false}
+use mathlib.Core.List.{List}
+use Prim.Native.Nat.{ℕ, suc, _+_, _≤_, _<_}
+use native.Mathlib.Omega.{arith}
+use lib.IntN.{ℤ}
+use lib.ListN.{set}
+use Rattle.refusal.specs.Check.{Decides}
+use Rattle.family.specs.Family.{value, after, Genuine}
+use Rattle.family.specs.Fine.{Fine, Checked}
+use Rattle.family.proofs.Checks.{room, checked-near, checked-by}
+use Rattle.family.proofs.Local.{Without, with?, genuine-put}
+use Rattle.family.proofs.After.{after-unique}
+use Rattle.table.specs.Table.{cell, Wrote}
+use Rattle.table.proofs.Writes.{wrote-kept, wrote-as, wrote-unique}
+use Rattle.costs.specs.Costs.{perm, LowSteps, Named, namedTest, Rewritten}
+use Rattle.costs.proofs.Perm.{perm-adjacent, perm-put}
+use Rattle.costs.proofs.Tally.{named-decided}
+
+decided : {P : Type 0} (t : Bool) → Decides P t → Dec P
+decided true d = yes (d .right refl)
+decided false d = no (d .wrong refl)
+
+module _ (N : ℕ) (perm : ℕ → ℕ → ℕ → Bool) (m v n : ℕ) (hn : n ≤ N) (t e : List ℕ) (w : Rewritten N perm (Named m v n) t e) where
+  -- the cells of stretches without v are as found
+  pub rewritten-kept : (k i j : ℕ) → 1 ≤ k → k ≤ m → i < j → j < n → Without v i j → cell e N k i j ≡ cell t N k i j
+  rewritten-kept k i j a b o h y =
+      wrote-kept N (value perm (cell e N)) (Named m v n) t e w (λ k' i' j' s. omega arith) k i j a (omega arith) (omega arith) (λ s. ⊎-elim (λ z. omega arith) (λ z. omega arith) y)
+
+  -- the cells of stretches i < j < n are those after the call
+  pub rewritten-after : (k i j : ℕ) → 1 ≤ k → k ≤ m → i < j → j < n → cell e N k i j ≡ after perm (cell t N) v k i j
+  rewritten-after = after-unique perm (cell t N) v (cell e N) m n rewritten-kept (λ k i j a b o h x y. w .named k i j (a, b, x, y, o, h))
+
+  as-after : Wrote N (Named m v n) (after perm (cell t N) v) t e
+  as-after = wrote-as N (value perm (cell e N)) (Named m v n) t e w (λ k i j s. omega arith) (after perm (cell t N) v)
+      (λ k i j s. sym (w .named k i j s) ∙ rewritten-after k i j (s .0) (s .1) (s .4) (s .5))
+
+  -- the table stays genuine where the permissions of stretches without v are as they were
+  pub rewritten-genuine : (perm₀ : ℕ → ℕ → ℕ → Bool)
+      → ((k i j : ℕ) → 1 ≤ k → k ≤ m → i < j → j < n → Without v i j → cell t N k i j ≡ value perm₀ (cell t N) k i j)
+      → ((k i j : ℕ) → 1 ≤ k → k ≤ m → i < j → j < n → Without v i j → perm₀ k i j ≡ perm k i j)
+      → Genuine perm (cell e N) m n
+  rewritten-genuine perm₀ old same =
+      genuine-put perm₀ perm (cell t N) (cell e N) m n v old same (λ k i j a b o h y. sym (rewritten-kept k i j a b o h y)) (λ k i j a b o h x y. w .named k i j (a, b, x, y, o, h))
+
+  -- check 5 holds where it held of the stretches without v
+  pub rewritten-checked : ((k i : ℕ) → perm k i (suc i) ≡ true) → m ≤ 16 → n ≤ 256
+      → ((k i j : ℕ) → 1 ≤ k → k ≤ m → i < j → j < n → Without v i j → Fine k i j (cell t N k i j))
+      → Checked (cell e N) m n
+  rewritten-checked adjacent p q fine = checked-by perm adjacent (cell e N) m n (room m n p q) (λ k i j a b o h. go k i j a b o h (with? v i j))
+    where
+      go : (k i j : ℕ) → 1 ≤ k → k ≤ m → i < j → j < n → Without v i j ⊎ ((i ≤ v) × (v ≤ j)) → Fine k i j (cell e N k i j) ⊎ (cell e N k i j ≡ value perm (cell e N) k i j)
+      go k i j a b o h (inl y) = inl (rw (rewritten-kept k i j a b o h y) (fine k i j a b o h y))
+      go k i j a b o h (inr y) = inr (w .named k i j (a, b, y .0, y .1, o, h))
+
+-- no other table can come of the call
+pub rewritten-unique : (N : ℕ) (perm : ℕ → ℕ → ℕ → Bool) (m v n : ℕ) → v < n → n ≤ N → (t e f : List ℕ) → Rewritten N perm (Named m v n) t e → Rewritten N perm (Named m v n) t f → e ≡ f
+rewritten-unique N perm m v n o hn t e f w x =
+    wrote-unique N (Named m v n) (after perm (cell t N) v) (omega arith) (λ k i j s. omega arith) (λ k i j. decided (namedTest m v n k i j) (named-decided m v n k i j)) t e f
+    (as-after N perm m v n hn t e w) (as-after N perm m v n hn t f x)
+
+-- a stretch of n + 1 samples without the last is one of n samples
+earlier : (n i j : ℕ) → i < j → j < n + 1 → Without n i j → j < n
+earlier n i j o h (inl y) = y
+earlier n i j o h (inr y) = absurd (omega arith)
+
+-- sample v corrected, and sample n added
+module _ (N : ℕ) (xs ys : List ℤ) (tols : List ℕ) (x y : ℤ) (m n : ℕ) (t e : List ℕ) where
+  pub corrected-genuine : (v : ℕ) → n ≤ N → Rewritten N (perm (set xs v x) (set ys v y) tols) (Named m v n) t e
+      → Genuine (perm xs ys tols) (cell t N) m n → Genuine (perm (set xs v x) (set ys v y) tols) (cell e N) m n
+  unfolding Genuine
+  corrected-genuine v h w g =
+      rewritten-genuine N (perm (set xs v x) (set ys v y) tols) m v n h t e w (perm xs ys tols) (λ k i j a b o d z. g k i j a b o d) (λ k i j a b o d z. perm-put xs ys tols v k i j x y z)
+
+  pub added-genuine : n < N → Rewritten N (perm (set xs n x) (set ys n y) tols) (Named m n (n + 1)) t e
+      → Genuine (perm xs ys tols) (cell t N) m n → Genuine (perm (set xs n x) (set ys n y) tols) (cell e N) m (n + 1)
+  unfolding Genuine
+  added-genuine h w g =
+      rewritten-genuine N (perm (set xs n x) (set ys n y) tols) m n (n + 1) (omega arith) t e w (perm xs ys tols)
+      (λ k i j a b o d z. g k i j a b o (earlier n i j o d z)) (λ k i j a b o d z. perm-put xs ys tols n k i j x y z)
+
+-- check 5: what it gives the walk, and that it holds again
+module _ (N : ℕ) (m n : ℕ) (t : List ℕ) (checked : Checked (cell t N) m n) where
+  pub corrected-steps : (v : ℕ) → LowSteps t N m v n
+  corrected-steps v k x a b h z = omega (arith, checked-near (cell t N) m n checked k x a b h)
+
+  pub added-steps : LowSteps t N m n (n + 1)
+  added-steps k x a b h z = omega (arith, checked-near (cell t N) m n checked k x a b (earlier n x (suc x) (omega arith) h z))
+
+  module _ (xs ys : List ℤ) (tols : List ℕ) (e : List ℕ) (hm : m ≤ 16) (hN : N ≤ 256) where
+    pub corrected-checked : (v : ℕ) → n ≤ N → Rewritten N (perm xs ys tols) (Named m v n) t e → Checked (cell e N) m n
+    corrected-checked v h w = rewritten-checked N (perm xs ys tols) m v n h t e w (perm-adjacent xs ys tols) hm (omega arith) (λ k i j a b o d z. checked k i j a b o d)
+
+    pub added-checked : n < N → Rewritten N (perm xs ys tols) (Named m n (n + 1)) t e → Checked (cell e N) m (n + 1)
+    added-checked h w =
+        rewritten-checked N (perm xs ys tols) m n (n + 1) (omega arith) t e w (perm-adjacent xs ys tols) hm (omega arith) (λ k i j a b o d z. checked k i j a b o (earlier n i j o d z))

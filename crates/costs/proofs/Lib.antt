@@ -1,0 +1,5 @@
+pub mod Perm
+pub mod Rows
+pub mod Sums
+pub mod Tally
+pub mod Exit

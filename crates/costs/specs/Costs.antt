@@ -1,0 +1,45 @@
+-- The permissions of a trace, the cells that a call about a sample names, what it writes into them, and how many they are. Assumes nothing.
+use mathlib.Core.Bool.{Bool, _&&_, cond}
+use mathlib.Core.List.{List}
+use mathlib.Core.Logic.{_⊎_}
+use Prim.Native.Nat.{ℕ, zero, suc, _+_, _-_, _≤_, _<_}
+use lib.Dec.{leb, ltb}
+use lib.IntN.{ℤ}
+use lib.ListN.{getD}
+use Rattle.geometry.specs.Test.{permits}
+use Rattle.family.specs.Family.{value}
+use Rattle.table.specs.Table.{cell, Wrote}
+
+-- the stretch i to j of the samples is permitted at the tolerance of level k
+unfoldable pub perm : List ℤ → List ℤ → List ℕ → ℕ → ℕ → ℕ → Bool
+perm xs ys tols k i j = permits xs ys i j (getD tols (k - 1) 0)
+
+-- the tolerances of levels 1 to m rise, and none is above 65,536
+pub record Rising (tols : List ℕ) (m : ℕ) : Type 0 where
+  pub rise : (l : ℕ) → l + 1 < m → getD tols l 0 < getD tols (l + 1) 0
+  pub small : (l : ℕ) → l < m → getD tols l 0 ≤ 65536
+
+-- the cells of adjacent samples without sample v, of n samples at levels 1 to m, hold at most their level
+abbrev pub LowSteps : List ℕ → ℕ → ℕ → ℕ → ℕ → Type 0
+LowSteps t N m v n = (k x : ℕ) → 1 ≤ k → k ≤ m → suc x < n → (suc x < v) ⊎ (v < x) → cell t N k x (suc x) ≤ k
+
+-- the cells that a call about sample v names, of n samples at levels 1 to m: those of stretches with v
+abbrev pub Named : ℕ → ℕ → ℕ → ℕ → ℕ → ℕ → Type 0
+Named m v n k i j = (1 ≤ k) × (k ≤ m) × (i ≤ v) × (v ≤ j) × (i < j) × (j < n)
+
+-- from t to e exactly the cells that S names are written, each with its value over the cells of e; every other address holds what it held
+abbrev pub Rewritten : ℕ → (ℕ → ℕ → ℕ → Bool) → (ℕ → ℕ → ℕ → Type 0) → List ℕ → List ℕ → Type 0
+Rewritten N perm S t e = Wrote N S (value perm (cell e N)) t e
+
+-- whether a cell is named (`proofs/Tally.antt` shows that the test decides `Named`)
+abbrev pub namedTest : ℕ → ℕ → ℕ → ℕ → ℕ → ℕ → Bool
+namedTest m v n k i j = leb 1 k && (leb k m && (leb i v && (leb v j && (ltb i j && ltb j n))))
+
+-- the sum of f below n
+unfoldable pub sum : ℕ → (ℕ → ℕ) → ℕ
+sum zero f = 0
+sum (suc n) f = sum n f + f n
+
+-- how many cells are named, counted one by one
+unfoldable pub named : ℕ → ℕ → ℕ → ℕ
+named m v n = sum m (λ l. sum n (λ j. sum n (λ i. cond (namedTest m v n (suc l) i j) 1 0)))

@@ -1,0 +1,2 @@
+pub mod Costs
+pub mod Walk
