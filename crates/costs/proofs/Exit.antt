@@ -1,13 +1,13 @@
 -- What is known of the table after a call about sample v: it is the only one, its cells stay the costs, and it passes check 5 again. Assumes nothing.
-use mathlib.Core.Path.{_≡_, refl, sym, _∙_}
+use mathlib.Core.Path.{_≡_, sym, _∙_}
 use mathlib.Core.Logic.{_⊎_, inl, inr, ⊎-elim}
-use mathlib.Core.Bool.{Bool, true, false}
+use mathlib.Core.Bool.{Bool, true}
 use mathlib.Core.List.{List}
 use Prim.Native.Nat.{ℕ, suc, _+_, _≤_, _<_}
 use native.Mathlib.Omega.{arith}
 use lib.IntN.{ℤ}
 use lib.ListN.{set}
-use Rattle.refusal.specs.Check.{Decides}
+use Rattle.refusal.specs.Plain.{decided}
 use Rattle.family.specs.Family.{value, after, Genuine}
 use Rattle.family.specs.Fine.{Fine, Checked}
 use Rattle.family.proofs.Checks.{room, checked-near, checked-by}
@@ -18,10 +18,6 @@ use Rattle.table.proofs.Writes.{wrote-kept, wrote-as, wrote-unique}
 use Rattle.costs.specs.Costs.{perm, LowSteps, Named, namedTest, Rewritten}
 use Rattle.costs.proofs.Perm.{perm-adjacent, perm-put}
 use Rattle.costs.proofs.Tally.{named-decided}
-
-decided : {P : Type 0} (t : Bool) → Decides P t → Dec P
-decided true d = yes (d .right refl)
-decided false d = no (d .wrong refl)
 
 module _ (N : ℕ) (perm : ℕ → ℕ → ℕ → Bool) (m v n : ℕ) (hn : n ≤ N) (t e : List ℕ) (w : Rewritten N perm (Named m v n) t e) where
   -- the cells of stretches without v are as found

@@ -3,3 +3,4 @@ pub mod Rows
 pub mod Sums
 pub mod Tally
 pub mod Exit
+pub mod Meaning

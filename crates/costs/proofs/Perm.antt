@@ -1,4 +1,4 @@
--- Laws of a trace's permissions: they are what `Permitted` says, neighbours are permitted, a higher level permits more, and storing a sample changes only stretches
+-- Laws of a trace's permissions: the test decides the statement, neighbours are permitted, a higher level permits more, and storing a sample changes only stretches
 -- with it; and the finest level that permits a stretch. Assumes nothing.
 use mathlib.Core.Path.{_≡_, sym, _∙_}
 use mathlib.Core.Logic.{inl, inr}
@@ -16,22 +16,17 @@ use lib.Seq.{getD-set-other}
 use Rattle.refusal.specs.Check.{Decides}
 use Rattle.refusal.specs.Plain.{decides-unique}
 use Rattle.geometry.specs.Coordinate.{InRange}
-use Rattle.geometry.specs.Near.{Permitted}
 use Rattle.geometry.proofs.Permits.{permits-decided, permits-wider, permits-adjacent, permits-same, Same}
 use Rattle.family.proofs.Local.{Without}
-use Rattle.costs.specs.Costs.{perm, Rising}
+use Rattle.costs.specs.Costs.{Permit, perm, Rising}
 use Rattle.costs.specs.Walk.{Finest}
 
--- fewer coordinates
-pub range-part : (xs : List ℤ) (j n : ℕ) → j < n → InRange xs n → InRange xs (j + 1)
-range-part xs j n h r = record { held = omega (arith, r .held); each = λ k a. r .each k (omega arith) }
-
-pub perm-decided : (xs ys : List ℤ) (tols : List ℕ) (k i j : ℕ) → InRange xs (j + 1) → InRange ys (j + 1) → i < j → Decides (Permitted xs ys i j (getD tols (k - 1) 0)) (perm xs ys tols k i j)
+pub perm-decided : (xs ys : List ℤ) (tols : List ℕ) (k i j : ℕ) → InRange xs (j + 1) → InRange ys (j + 1) → i < j → Decides (Permit xs ys tols k i j) (perm xs ys tols k i j)
 unfolding perm
 perm-decided xs ys tols k i j a b o = permits-decided xs ys i j (getD tols (k - 1) 0) a b o
 
 -- an answer that is yes exactly when the stretch is permitted
-pub perm-judged : (xs ys : List ℤ) (tols : List ℕ) (k i j : ℕ) (r : Bool) → InRange xs (j + 1) → InRange ys (j + 1) → i < j → Decides (Permitted xs ys i j (getD tols (k - 1) 0)) r → r ≡ perm xs ys tols k i j
+pub perm-judged : (xs ys : List ℤ) (tols : List ℕ) (k i j : ℕ) (r : Bool) → InRange xs (j + 1) → InRange ys (j + 1) → i < j → Decides (Permit xs ys tols k i j) r → r ≡ perm xs ys tols k i j
 perm-judged xs ys tols k i j r a b o d = decides-unique r (perm xs ys tols k i j) d (perm-decided xs ys tols k i j a b o)
 
 pub perm-adjacent : (xs ys : List ℤ) (tols : List ℕ) (k i : ℕ) → perm xs ys tols k i (suc i) ≡ true

@@ -6,11 +6,15 @@ use Prim.Native.Nat.{ℕ, zero, suc, _+_, _-_, _≤_, _<_}
 use lib.Dec.{leb, ltb}
 use lib.IntN.{ℤ}
 use lib.ListN.{getD}
+use Rattle.geometry.specs.Near.{Permitted}
 use Rattle.geometry.specs.Test.{permits}
 use Rattle.family.specs.Family.{value}
 use Rattle.table.specs.Table.{cell, Wrote}
 
--- the stretch i to j of the samples is permitted at the tolerance of level k
+-- the stretch i to j of the samples is permitted at the tolerance of level k, as a statement and as the test that decides it (`perm-decided`)
+abbrev pub Permit : List ℤ → List ℤ → List ℕ → ℕ → ℕ → ℕ → Type 0
+Permit xs ys tols k i j = Permitted xs ys i j (getD tols (k - 1) 0)
+
 unfoldable pub perm : List ℤ → List ℤ → List ℕ → ℕ → ℕ → ℕ → Bool
 perm xs ys tols k i j = permits xs ys i j (getD tols (k - 1) 0)
 

@@ -36,6 +36,10 @@ pub decides-true : {P : Type 0} (t : Bool) → Decides P t → P → t ≡ true
 decides-true true d p = refl
 decides-true false d p = absurd (d .wrong refl p)
 
+pub decided : {P : Type 0} (t : Bool) → Decides P t → Dec P
+decided true d = yes (d .right refl)
+decided false d = no (d .wrong refl)
+
 -- a test of two numbers decides what is equivalent to their order
 pub by-test : (P : Type 0) (m n : ℕ) → (m ≤ n → P) → (P → m ≤ n) → Decides P (leb m n)
 by-test P m n f g = record { right = λ t. f (leb-true m n t); wrong = λ t p. not-le-of-lt (leb-false m n t) (g p) }

@@ -4,7 +4,8 @@ use Prim.Native.Nat.{_+_, _-_, _≤_, min}
 use native.Mathlib.Omega.{arith}
 use native.Mathlib.Nat.{mul-le-mul}
 use Rattle.costs.specs.Costs.{perm, Named, Rewritten, named}
-use Rattle.costs.proofs.Perm.{perm-adjacent, range-part}
+use Rattle.geometry.proofs.Coordinate.{fewer}
+use Rattle.costs.proofs.Perm.{perm-adjacent}
 use Rattle.costs.proofs.Rows.{ends-none, ends-more}
 use Rattle.costs.proofs.Sums.{ends-settled}
 use Rattle.costs.proofs.Tally.{named-none, named-more, named-small}
@@ -28,7 +29,7 @@ write-end-requires c κs =
     let p = l .before .before .pre in (
       (omega arith, omega arith, omega arith, omega arith, omega arith, p .0 .5),
       (
-        (range-part _ _ _ (omega arith) (p .1 .0 .0), range-part _ _ _ (omega arith) (p .1 .0 .1), rw (l .loop .inv .0 .same) (p .1 .0 .2)),
+        (fewer (omega arith) (p .1 .0 .0), fewer (omega arith) (p .1 .0 .1), rw (l .loop .inv .0 .same) (p .1 .0 .2)),
         ends-settled (a .cap) (perm (a .xs .now) (a .ys .now) (a .tolerances .now)) (perm-adjacent _ _ _) (a .m) (a .v) (a .n) (l .loop .j) (a .table .now) (l .loop .table) (omega arith) (omega arith) (p .1 .1) (l .loop .inv .0),
       ),
     )
