@@ -7,7 +7,7 @@ use Prim.Native.Nat.{ℕ, suc, _+_, _≤_, _<_}
 use native.Mathlib.Omega.{arith}
 use lib.IntN.{ℤ}
 use lib.ListN.{set}
-use Rattle.refusal.specs.Plain.{decided}
+use Rattle.refusal.proofs.Plain.{decided}
 use Rattle.family.specs.Family.{value, after, Genuine}
 use Rattle.family.specs.Fine.{Fine, Checked}
 use Rattle.family.proofs.Checks.{room, checked-near, checked-by}

@@ -14,7 +14,7 @@ use lib.IntN.{ℤ, pos}
 use lib.ListN.{getD, set}
 use lib.Seq.{getD-set-other}
 use Rattle.refusal.specs.Check.{Decides}
-use Rattle.refusal.specs.Plain.{decides-unique}
+use Rattle.refusal.proofs.Plain.{decides-unique}
 use Rattle.geometry.specs.Coordinate.{InRange}
 use Rattle.geometry.proofs.Permits.{permits-decided, permits-wider, permits-adjacent, permits-same, Same}
 use Rattle.family.proofs.Local.{Without}

@@ -10,7 +10,7 @@ use native.Mathlib.Omega.{arith}
 use borrow.Author.Tests.{lt-ltb, le-ltb}
 use lib.Dec.{leb, ltb}
 use Rattle.refusal.specs.Check.{Decides}
-use Rattle.refusal.specs.Plain.{carry, by-test, by-less, both-decided, decides-unique}
+use Rattle.refusal.proofs.Plain.{carry, by-test, by-less, both-decided, decides-unique}
 use Rattle.costs.specs.Costs.{Named, namedTest, sum, named}
 
 pub named-decided : (m v n k i j : ℕ) → Decides (Named m v n k i j) (namedTest m v n k i j)

@@ -11,7 +11,7 @@ use native.Mathlib.Nat.{le-refl, le-antisymm}
 use lib.ListN.{length, getD}
 use borrow.Author.Tests.{eq-eqb, ne-eqb}
 use Rattle.refusal.specs.Check.{Decides}
-use Rattle.refusal.specs.Plain.{decides-true, decides-unique, no-decides}
+use Rattle.refusal.proofs.Plain.{decides-true, decides-unique, no-decides}
 use Rattle.family.specs.Family.{Neighbours, Family, Minimal, Cost, segments, total}
 use Rattle.family.specs.Lists.{numbers}
 use Rattle.family.specs.Levels

@@ -11,7 +11,7 @@ use mir.Syntax.{w16}
 use mir.Val.{toZ, ofZ}
 use mir.Facts.{toZ-ofZ}
 use Rattle.refusal.specs.Check.{Decides}
-use Rattle.refusal.specs.Plain.{by-test, all-decided}
+use Rattle.refusal.proofs.Plain.{by-test, all-decided}
 use Rattle.geometry.specs.Coordinate.{Coord, InRange, coordinateOk, coordinatesOk}
 
 pub coordinate-decided : (z : ℤ) → Decides (Coord z) (coordinateOk z)

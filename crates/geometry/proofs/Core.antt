@@ -5,7 +5,7 @@ use Prim.Native.Nat.{ℕ, _+_, _*_, _-_, _≤_, _<_}
 use native.Mathlib.Nat.{mul-le-mul, mul-le-mul-left, le-of-mul-le-mul-left}
 use native.Mathlib.Omega.{arith}
 use Rattle.geometry.specs.Shifted.{Close}
-use Rattle.algebra.specs.Gap.{two-mul-le}
+use Rattle.algebra.proofs.Gap.{two-mul-le}
 
 pub record Frame (M : ℕ → ℕ → ℕ) (U L P N C : ℕ) : Type 0 where
   pub scaled : (r s : ℕ) → M r s + 2 * (r * s * P) ≡ r * r * U + 2 * (r * s * N) + s * s * L

@@ -7,8 +7,9 @@ use native.Mathlib.Omega.{arith}
 use lib.Dec.{leb}
 use borrow.Author.Tests.{leb-true, leb-false}
 use Rattle.refusal.specs.Check.{Decides}
-use Rattle.refusal.specs.Plain.{by-test}
-use Rattle.algebra.specs.Gap.{gap, gap-le, two-mul-le}
+use Rattle.refusal.proofs.Plain.{by-test}
+use Rattle.algebra.specs.Gap.{gap}
+use Rattle.algebra.proofs.Gap.{gap-le, two-mul-le}
 use Rattle.geometry.specs.Shifted.{apart, part, NearAt, Moved}
 use Rattle.geometry.specs.Test.{fore, aft, cross-sq, reaches}
 use Rattle.geometry.proofs.Core.{behind, behind-only, past, past-only, abreast, abreast-only}

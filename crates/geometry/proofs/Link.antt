@@ -3,9 +3,10 @@ use mathlib.Core.Path.{_≡_}
 use Prim.Native.Nat.{ℕ, _+_, _*_}
 use lib.IntN.{ℤ, pos, _-ℤ_, _*ℤ_}
 use Rattle.refusal.specs.Check.{Decides}
-use Rattle.refusal.specs.Plain.{carry}
-use Rattle.algebra.specs.Gap.{gap-sq, square-unique}
-use Rattle.algebra.specs.Parts.{Is, sq, is-sub, is-mul, is-minus, is-sq}
+use Rattle.refusal.proofs.Plain.{carry}
+use Rattle.algebra.proofs.Gap.{gap-sq, square-unique}
+use Rattle.algebra.specs.Parts.{Is, sq}
+use Rattle.algebra.proofs.Parts.{is-sub, is-mul, is-minus, is-sq}
 use Rattle.geometry.specs.Near.{Near}
 use Rattle.geometry.specs.Shifted.{part, NearAt}
 

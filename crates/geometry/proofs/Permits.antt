@@ -9,7 +9,7 @@ use native.Mathlib.Omega.{arith}
 use lib.IntN.{ℤ, pos}
 use lib.ListN.{getD}
 use Rattle.refusal.specs.Check.{Decides}
-use Rattle.refusal.specs.Plain.{carry, decides-true, decides-unique, all-decided}
+use Rattle.refusal.proofs.Plain.{carry, decides-true, decides-unique, all-decided}
 use Rattle.geometry.specs.Coordinate.{InRange}
 use Rattle.geometry.specs.Near.{Near, Along, Permitted}
 use Rattle.geometry.specs.Shifted.{Close, NearAt}

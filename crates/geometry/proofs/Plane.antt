@@ -2,7 +2,8 @@
 use mathlib.Core.Path.{_≡_, ap}
 use Prim.Native.Nat.{ℕ, _+_, _*_}
 use native.Mathlib.Omega.{arith}
-use Rattle.algebra.specs.Gap.{gap, Square, gap-sq, square-mul, square-swap}
+use Rattle.algebra.specs.Gap.{gap, Square}
+use Rattle.algebra.proofs.Gap.{gap-sq, square-mul, square-swap}
 use Rattle.geometry.specs.Shifted.{apart, part}
 use Rattle.geometry.specs.Test.{fore, aft, left, right, cross-sq}
 use Rattle.geometry.proofs.Core.{Frame}

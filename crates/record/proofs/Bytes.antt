@@ -10,7 +10,7 @@ use lib.Seq.{getD-take, getD-drop, length-take-le}
 use borrow.Author.Tests.{lt-ltb, eq-eqb}
 use Rattle.refusal.specs.declared.Outcome.{Outcome}
 use Rattle.refusal.specs.declared.Outcome.the-variants.{Done, Refused}
-use Rattle.refusal.specs.Laws.{all-same}
+use Rattle.refusal.proofs.Laws.{all-same}
 use Rattle.record.specs.Record.{word, signed, signedAt, counter, spareOk, recordOutcome, decodeOutcome, decodedBy, decodeOf}
 use Rattle.record.specs.Pause.{recordBytes, pauseLineOf}
 use Rattle.record.proofs.Record.{decode-outcome}

@@ -3,3 +3,4 @@ pub mod Record
 pub mod Pause
 pub mod Plain
 pub mod Bytes
+pub mod Examples

@@ -14,7 +14,7 @@ use Rattle.refusal.specs.declared.Refusal.the-variants.{Length}
 use Rattle.refusal.specs.declared.Outcome.{Outcome}
 use Rattle.refusal.specs.declared.Outcome.the-variants.{Done, Refused}
 use Rattle.refusal.specs.Check.{andThen}
-use Rattle.refusal.specs.Laws.{and-right, need-done, then-done}
+use Rattle.refusal.proofs.Laws.{and-right, need-done, then-done}
 use Rattle.record.specs.Record.{counter, recordOutcome}
 use Rattle.record.specs.Pause.{fileLengthOk, recordsOutcome, fileOutcome, increase, increaseAt, pauseSum, lineBy, pauseLineOf}
 

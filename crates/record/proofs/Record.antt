@@ -6,7 +6,7 @@ use lib.ListN.{length}
 use borrow.Author.Tests.{eqb-true}
 use Rattle.refusal.specs.declared.Outcome.{Outcome}
 use Rattle.refusal.specs.declared.Outcome.the-variants.{Done, Refused}
-use Rattle.refusal.specs.Laws.{need-done}
+use Rattle.refusal.proofs.Laws.{need-done}
 use Rattle.record.specs.Record.{decodeOutcome, decodedBy, decodeOf}
 
 outcome-by : (o : Outcome) (s : List ℕ) (p : ℕ) → decodedBy o s p .outcome ≡ o

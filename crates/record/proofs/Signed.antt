@@ -8,7 +8,7 @@ use mir.Syntax.{w16}
 use mir.Val.{toZ, ofZ, SFits}
 use mir.Facts.{toZ-ofZ}
 use borrow.Author.Tests.{lt-ltb, le-ltb}
-use Rattle.algebra.specs.Signed.{toZ-low, less}
+use Rattle.algebra.proofs.Signed.{toZ-low, less}
 use Rattle.record.specs.Record.{signed}
 
 pub signed-low : (u : ℕ) → u < 32768 → toZ w16 u ≡ signed u

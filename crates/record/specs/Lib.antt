@@ -1,4 +1,3 @@
 pub mod Record
 pub mod Pause
 pub mod Plain
-pub mod Examples

@@ -1,4 +1,2 @@
 pub mod Number
 pub mod Check
-pub mod Laws
-pub mod Plain

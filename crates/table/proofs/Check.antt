@@ -8,7 +8,7 @@ use native.Mathlib.Omega.{arith}
 use lib.Dec.{eqb, ltb}
 use lib.ListN.{getD}
 use Rattle.refusal.specs.Check.{Decides, from-to}
-use Rattle.refusal.specs.Plain.{carry, by-equal, by-less, both-decided, either-decided, from-to-decided, all-decided}
+use Rattle.refusal.proofs.Plain.{carry, by-equal, by-less, both-decided, either-decided, from-to-decided, all-decided}
 use Rattle.family.specs.Family.{none}
 use Rattle.family.specs.Fine.{Fine, Checked}
 use Rattle.table.specs.Table.{at, cell}

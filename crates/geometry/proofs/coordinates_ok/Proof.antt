@@ -4,7 +4,7 @@ use Prim.Native.Nat.{_-_}
 use native.Mathlib.Omega.{arith}
 use lib.ListN.{getD}
 use borrow.Author.Tests.{not-true, not-false}
-use Rattle.refusal.specs.Laws.{all-no, Passed, passed-none, passed-more, passed-all}
+use Rattle.refusal.proofs.Laws.{all-no, Passed, passed-none, passed-more, passed-all}
 use lib.IntN.{pos}
 use Rattle.geometry.specs.Coordinate.{coordinateOk, coordinatesOk}
 use Rattle.geometry.proofs.Coordinate.{coordinate-back}

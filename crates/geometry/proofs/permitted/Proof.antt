@@ -6,7 +6,7 @@ use native.Mathlib.Nat.{mul-le-mul}
 use native.Mathlib.Omega.{arith}
 use Prim.Native.Nat.{ℕ, _-_, _≤_, _<_}
 use Rattle.refusal.specs.Check.{Decides}
-use Rattle.refusal.specs.Plain.{yes-decides, no-decides}
+use Rattle.refusal.proofs.Plain.{yes-decides, no-decides}
 use Rattle.geometry.specs.Near.{Along}
 use Rattle.geometry.proofs.Link.{decides-near}
 use Rattle.geometry.proofs.permitted.Statement.{statement}

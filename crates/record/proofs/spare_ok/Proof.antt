@@ -6,7 +6,7 @@ use borrow.Author.Tests.{eq-eqb, ne-eqb}
 use lib.Dec.{eqb}
 use lib.ListN.{getD}
 use Rattle.record.specs.Record.{spareOk}
-use Rattle.refusal.specs.Laws.{all-no, Passed, passed-none, passed-more, passed-all}
+use Rattle.refusal.proofs.Laws.{all-no, Passed, passed-none, passed-more, passed-all}
 use Rattle.record.proofs.spare_ok.Statement.{statement}
 use Rattle.record.proofs.spare_ok.Tie as tie
 

@@ -3,7 +3,7 @@ use mathlib.Core.Bool.{or-false}
 use Prim.Native.Nat.{ℕ, _+_, _*_, _-_, _≤_, _<_}
 use native.Mathlib.Omega.{arith}
 use borrow.Author.Tests.{eq-eqb, ne-eqb, le-leb, lt-leb}
-use Rattle.refusal.specs.Laws.{and-false}
+use Rattle.refusal.proofs.Laws.{and-false}
 use Rattle.table.specs.Check.{cellOk}
 use native.Mathlib.Nat.{mul-le-mul}
 use borrow.Author.Needs.{needs}

@@ -3,7 +3,7 @@ use mathlib.Core.Path.{sym, _∙_}
 use Prim.Native.Nat.{_+_, _-_}
 use native.Mathlib.Omega.{arith}
 use borrow.Author.Tests.{not-true, not-false}
-use Rattle.refusal.specs.Laws.{all-no, Passed, passed-none, passed-more, passed-all}
+use Rattle.refusal.proofs.Laws.{all-no, Passed, passed-none, passed-more, passed-all}
 use Rattle.table.specs.Check.{levelOk, cellsOk}
 use Rattle.table.proofs.Address.{room-below}
 use Rattle.table.proofs.cells_ok.Statement.{statement}

@@ -4,7 +4,7 @@ use Prim.Native.Nat.{ℕ, _+_, _-_, _<_}
 use native.Mathlib.Omega.{arith}
 use lib.ListN.{length}
 use borrow.Author.Tests.{not-true, not-false}
-use Rattle.refusal.specs.Laws.{all-no, Passed, passed-none, passed-more, passed-all}
+use Rattle.refusal.proofs.Laws.{all-no, Passed, passed-none, passed-more, passed-all}
 use Rattle.table.specs.Table.{at}
 use Rattle.table.specs.Check.{rowOk, levelOk}
 use Rattle.table.proofs.Address.{at-in}

@@ -4,7 +4,7 @@ use Prim.Native.Nat.{_+_, _-_}
 use native.Mathlib.Omega.{arith}
 use lib.ListN.{getD}
 use borrow.Author.Tests.{not-true, not-false}
-use Rattle.refusal.specs.Laws.{all-no, Passed, passed-none, passed-more, passed-all}
+use Rattle.refusal.proofs.Laws.{all-no, Passed, passed-none, passed-more, passed-all}
 use Rattle.table.specs.Check.{cellOk, rowOk}
 use Rattle.table.proofs.row_ok.Statement.{statement}
 use Rattle.table.proofs.row_ok.Tie as tie
