@@ -1,4 +1,5 @@
--- Demand 3's step in the paper's words: where every cell was the cost of its stretch, it is again after a sample is corrected or added. Assumes nothing.
+-- What the walk writes, in the paper's words: the values of the named cells in any table that passes check 5, and demand 3's step: where every cell was
+-- the cost of its stretch, it is again after a sample is corrected or added. Assumes nothing.
 use mathlib.Core.Logic.{_↔_}
 use mathlib.Core.List.{List}
 use Prim.Native.Nat.{ℕ, _+_, _≤_, _<_}
@@ -10,12 +11,16 @@ use Rattle.geometry.specs.Coordinate.{InRange}
 use Rattle.geometry.proofs.Coordinate.{fewer}
 use Rattle.family.specs.Family.{Genuine}
 use Rattle.family.specs.Levels as Levels
-use Rattle.family.proofs.Checks.{room}
+use Rattle.family.specs.Fine.{Fine}
+use Rattle.family.specs.Path.{Written}
+use Rattle.family.proofs.Checks.{room, checked-most}
+use Rattle.family.proofs.Foreign.{value-written}
+use Rattle.family.proofs.Local.{Without}
 use Rattle.family.proofs.Promise.{genuine-meant}
 use Rattle.table.specs.Table.{cell}
 use Rattle.costs.specs.Costs.{Permit, perm, Named, Rewritten}
 use Rattle.costs.proofs.Perm.{perm-decided, perm-adjacent}
-use Rattle.costs.proofs.Exit.{corrected-genuine, added-genuine}
+use Rattle.costs.proofs.Exit.{rewritten-checked, corrected-genuine, added-genuine}
 
 module _ (xs ys : List ℤ) (tols : List ℕ) (m n : ℕ) (across : InRange xs n) (upward : InRange ys n) where
   -- the test decides each stretch of the n samples
@@ -25,6 +30,16 @@ module _ (xs ys : List ℤ) (tols : List ℕ) (m n : ℕ) (across : InRange xs n
   -- a table is genuine exactly when every cell is its cost
   pub genuine-is : m ≤ 16 → n ≤ 256 → (c : ℕ → ℕ → ℕ → ℕ) → Genuine (perm xs ys tols) c m n ↔ Levels.Costs (Permit xs ys tols) c m n
   genuine-is a b c = genuine-meant (Permit xs ys tols) (perm xs ys tols) (perm-adjacent xs ys tols) m n (room m n a b) permissions c
+
+-- of any table that passes check 5: each cell that the call names holds what the paper says over the exit table, cells of this call as written and all others as found
+pub rewritten-written : (N : ℕ) (xs ys : List ℤ) (tols : List ℕ) (m v n : ℕ) (t e : List ℕ) → m ≤ 16 → n ≤ 256 → n ≤ N → InRange xs n → InRange ys n
+    → ((k i j : ℕ) → 1 ≤ k → k ≤ m → i < j → j < n → Without v i j → Fine k i j (cell t N k i j))
+    → Rewritten N (perm xs ys tols) (Named m v n) t e
+    → (k i j : ℕ) → Named m v n k i j → Written (Permit xs ys tols) (cell e N) k i j (cell e N k i j)
+rewritten-written N xs ys tols m v n t e a b h across upward fine w k i j s =
+    let C = rewritten-checked N (perm xs ys tols) m v n h t e w (perm-adjacent xs ys tols) a b fine in
+    rw (w .named k i j s) (value-written (Permit xs ys tols) (perm xs ys tols) (cell e N) m n (checked-most (cell e N) m n C) (room m n a b) k i j (s .0) (s .1) (s .4) (s .5)
+    (permissions xs ys tols m n across upward k i j (s .0) (s .1) (s .4) (s .5)))
 
 -- the samples before, a new sample (x, y), and the tables before and after
 module _ (N : ℕ) (xs ys : List ℤ) (tols : List ℕ) (x y : ℤ) (m n : ℕ) (t e : List ℕ) (few : m ≤ 16) (small : N ≤ 256) (across : InRange xs n) (upward : InRange ys n) where

@@ -7,9 +7,11 @@ use mathlib.Core.List.{List, [], _∷_}
 use native.Mathlib.Omega.{arith}
 use native.Mathlib.Decide.{decLe, decLt}
 use native.Mathlib.Nat.{le-refl, le-antisymm}
-use Rattle.family.specs.Family.{none, Neighbours, least, next, below, Read, Readout}
+use mathlib.Core.Bool.{Bool, true, false, cond}
+use Rattle.refusal.specs.Check.{Decides}
+use Rattle.family.specs.Family.{none, Neighbours, least, next, below, value, Read, Readout}
 use Rattle.family.specs.Lists.{numbers, Larger}
-use Rattle.family.specs.Path.{Path, done, step, Best, ReadsBest}
+use Rattle.family.specs.Path.{Path, done, step, Best, LeastSum, Written, ReadsBest}
 use Rattle.family.proofs.Paths.{least-end, least-next, least-lt, least-bound, next-after, next-within, path-least}
 use Rattle.family.proofs.Checks.{near-small}
 use Rattle.family.proofs.Families.{walk}
@@ -100,6 +102,10 @@ module _ (c : ℕ → ℕ → ℕ) (j : ℕ) where
       let f : l ≡ t .0 = cc in
       rw f (t .1)
 
+  -- `least` is the least sum of a path
+  pub least-sum : (p : ℕ) → p ≤ j → least c p j < none → LeastSum c p j (least c p j)
+  least-sum p a h = let t = follow (j - p) p a (omega arith) in record { some = (p ∷ t .0, follows-path p (t .0) h (t .1)); every = λ l v o. path-least c o .1 }
+
   -- there is a best path where the cells of adjacent samples are at most k
   pub best-some : (k p : ℕ) → p ≤ j → ((x : ℕ) → p ≤ x → x < j → c x (suc x) ≤ k) → k * (j - p) < none → (l : List ℕ) × Follows p l × Best c p j (p ∷ l)
   best-some k p a near room =
@@ -180,6 +186,36 @@ module _ (c : ℕ → ℕ → ℕ → ℕ) (r : ℕ → ℕ) (ℓ u v : ℕ) (on
   ]
 
 -- a table whose cells of adjacent samples are as check 5 has them
+pub value-written : (Permit : ℕ → ℕ → ℕ → Type 0) (perm : ℕ → ℕ → ℕ → Bool) (c : ℕ → ℕ → ℕ → ℕ) (m n : ℕ)
+    → ((k x : ℕ) → 1 ≤ k → k ≤ m → suc x < n → c k x (suc x) ≤ k) → m * n < none
+    → (k i j : ℕ) → 1 ≤ k → k ≤ m → i < j → j < n → Decides (Permit k i j) (perm k i j) → Written Permit c k i j (value perm c k i j)
+unfolding value below
+value-written Permit perm c m n near room zero i j a b o h D = absurd (omega arith)
+value-written Permit perm c m n near room (suc k) i j a b o h D = go (perm (suc k) i j) refl
+  where
+    sums : (ℓ : ℕ) → 1 ≤ ℓ → k ≡ ℓ → LeastSum (c ℓ) i j (below c k i j)
+    sums zero e f = absurd (omega arith)
+    sums (suc ℓ) e f = rw f (least-sum (c (suc ℓ)) j i (omega arith) (near-small c m n near room (suc ℓ) i j (omega arith) (omega arith) h))
+
+    go : (t : Bool) → perm (suc k) i j ≡ t → Written Permit c (suc k) i j (cond (perm (suc k) i j) (suc (below c k i j)) none)
+    go true e = record {
+      refused = λ p. absurd (p (D .right e));
+      finest = λ p f. (let z : k ≡ 0 = omega arith in rw (e, z) refl);
+      above = λ p ℓ x f. (below c k i j, sums ℓ x (omega arith), rw e refl);
+    }
+    go false e = record { refused = λ p. rw e refl; finest = λ p. absurd (D .wrong e p); above = λ p. absurd (D .wrong e p) }
+
+-- and nothing else may be written
+pub written-one : (Permit : ℕ → ℕ → ℕ → Type 0) (c : ℕ → ℕ → ℕ → ℕ) (k i j v w : ℕ) (t : Bool) → 1 ≤ k → Decides (Permit k i j) t
+    → Written Permit c k i j v → Written Permit c k i j w → v ≡ w
+written-one Permit c zero i j v w t a D F G = absurd (omega arith)
+written-one Permit c (suc k) i j v w false a D F G = F .refused (D .wrong refl) ∙ sym (G .refused (D .wrong refl))
+written-one Permit c (suc zero) i j v w true a D F G = F .finest (D .right refl) refl ∙ sym (G .finest (D .right refl) refl)
+written-one Permit c (suc (suc k)) i j v w true a D F G =
+    let x = F .above (D .right refl) (suc k) (omega arith) refl in
+    let y = G .above (D .right refl) (suc k) (omega arith) refl in
+    omega (arith, x .2, y .2, x .1 .every (y .1 .some .0) (y .0) (y .1 .some .1), y .1 .every (x .1 .some .0) (x .0) (x .1 .some .1))
+
 module _ (c : ℕ → ℕ → ℕ → ℕ) (m n : ℕ) (near : (k x : ℕ) → 1 ≤ k → k ≤ m → suc x < n → c k x (suc x) ≤ k) (room : m * n < none) (one : 1 ≤ m) (some : 0 < n) where
   small : (k i j : ℕ) → 1 ≤ k → k ≤ m → i ≤ j → j < n → least (c k) i j < none
   small zero i j a b o h = absurd (omega arith)
