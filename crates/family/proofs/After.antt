@@ -9,7 +9,7 @@ use borrow.Author.Tests.{le-leb, lt-leb}
 use Rattle.family.specs.Family.{below, value, after, Genuine}
 use Rattle.family.specs.Fine.{Fine, Checked}
 use Rattle.family.proofs.Checks.{room, checked-by}
-use Rattle.family.proofs.Local.{Without, with?, value-same, genuine-put, put-unique}
+use Rattle.family.proofs.Local.{Without, with?, genuine-put, put-unique}
 
 module _ (perm : ℕ → ℕ → ℕ → Bool) (c : ℕ → ℕ → ℕ → ℕ) (v : ℕ) where
   -- a stretch with v has its value over the cells after the call
@@ -25,11 +25,6 @@ module _ (perm : ℕ → ℕ → ℕ → Bool) (c : ℕ → ℕ → ℕ → ℕ)
   after-without zero i j w = refl
   after-without (suc k) i j (inr w) = rw (lt-leb i v w)
   after-without (suc k) i j (inl w) = elim (decLe i v) [ yes y ↦ rw (le-leb i v y, lt-leb v j w) | no y ↦ rw (lt-leb i v (omega arith)) ]
-
-  -- what a call writes over a table whose level below is written
-  pub after-value : (d : ℕ → ℕ → ℕ → ℕ) (k i j : ℕ) → 1 ≤ k → i < j → i ≤ v → v ≤ j
-      → ((ℓ p q : ℕ) → 1 ≤ ℓ → suc ℓ ≡ k → i ≤ p → p < q → q ≤ j → d ℓ p q ≡ after perm c v ℓ p q) → value perm d k i j ≡ after perm c v k i j
-  after-value d k i j a o u w e = value-same perm perm d (after perm c v) k i j o refl e ∙ sym (after-with k i j a u w)
 
   -- a table with the cells found in stretches without v, and with the values of its own cells in the others, is this one
   pub after-unique : (d : ℕ → ℕ → ℕ → ℕ) (m n : ℕ)
