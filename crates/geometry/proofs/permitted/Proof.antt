@@ -4,7 +4,7 @@ use borrow.Author.Needs.{needs}
 use borrow.Author.Tests.{not-true, not-false}
 use native.Mathlib.Nat.{mul-le-mul}
 use native.Mathlib.Omega.{arith}
-use Prim.Native.Nat.{ℕ, _-_, _≤_, _<_}
+use Prim.Native.Nat.{ℕ, _-_, _<_}
 use Rattle.refusal.specs.Check.{Decides}
 use Rattle.refusal.proofs.Plain.{yes-decides, no-decides}
 use Rattle.geometry.specs.Near.{Along}
@@ -13,7 +13,7 @@ use Rattle.geometry.proofs.permitted.Statement.{statement}
 use Rattle.geometry.proofs.permitted.Tie as tie
 
 abbrev Inv-loop : tie.InvT-loop
-Inv-loop xs ys i j e a x b y length reach k₀ k = (i < k) × (k ≤ j) × ((l : ℕ) → l < k → i < l → Along xs ys i j e l)
+Inv-loop xs ys i j e a x b y length reach k₀ k = (i < k) × ((l : ℕ) → l < k → i < l → Along xs ys i j e l)
 
 abbrev μ-loop : tie.MeasureT-loop
 μ-loop xs ys i j e a x b y length reach k₀ k = j - k
@@ -40,7 +40,7 @@ add-k : tie.Need-add-k Inv-loop μ-loop
 add-k c = omega arith
 
 loop-holds : tie.Need-loop-holds Inv-loop μ-loop
-loop-holds c = (omega arith, omega arith, λ l a b. absurd (omega arith))
+loop-holds c = (omega arith, λ l a b. absurd (omega arith))
 
 moved-at-requires-5 : tie.Need-moved-at-requires-5 Inv-loop μ-loop
 moved-at-requires-5 c κs = (omega arith, c .before .before .before .before .before .before .before .pre .0 .each _ (omega arith))
@@ -79,13 +79,12 @@ loop-again c =
     let a = c .before .before .before .before .before .before .before .before .before .before .before .args in
     let d = c .before .before .before .before .before .loop in (
       omega arith,
-      omega arith,
-      below-more (λ (l : ℕ). a .i < l → Along (a .xs .now) (a .ys .now) (a .i) (a .j) (a .e) l) (d .k) (d .inv .2)
+      below-more (λ (l : ℕ). a .i < l → Along (a .xs .now) (a .ys .now) (a .i) (a .j) (a .e) l) (d .k) (d .inv .1)
           (λ _. judged (c .before) .right (not-false _ (c .if1 .left))),
     )
 
 returns-2 : tie.Need-returns-2 Inv-loop μ-loop
-returns-2 c = yes-decides (record { each = λ l a b. c .before .loop .inv .2 l (omega arith) a })
+returns-2 c = yes-decides (record { each = λ l a b. c .before .loop .inv .1 l (omega arith) a })
 
 pub permitted-spec : {M : Type 1} → statement M
 permitted-spec =
