@@ -19,11 +19,15 @@ use Rattle.costs.specs.Costs.{perm, LowSteps, Named, namedTest, Rewritte
 use Rattle.costs.proofs.Perm.{perm-adjacent, perm-put}
 use Rattle.costs.proofs.Tally.{named-decided}
 
+-- the cells of stretches without v are as found, whatever the others are written with
+pub named-kept : (N : ℕ) (G : ℕ → ℕ → ℕ → ℕ) (m v n : ℕ) → n ≤ N → (t e : List ℕ) → Wrote N (Named m v n) G t e
+    → (k i j : ℕ) → 1 ≤ k → k ≤ m → i < j → j < n → Without v i j → cell e N k i j ≡ cell t N k i j
+named-kept N G m v n hn t e w k i j a b o h y =
+    wrote-kept N G (Named m v n) t e w (λ k' i' j' s. omega arith) k i j a (omega arith) (omega arith) (λ s. ⊎-elim (λ z. omega arith) (λ z. omega arith) y)
+
 module _ (N : ℕ) (perm : ℕ → ℕ → ℕ → Bool) (m v n : ℕ) (hn : n ≤ N) (t e : List ℕ) (w : Rewritten N perm (Named m v n) t e) where
-  -- the cells of stretches without v are as found
   pub rewritten-kept : (k i j : ℕ) → 1 ≤ k → k ≤ m → i < j → j < n → Without v i j → cell e N k i j ≡ cell t N k i j
-  rewritten-kept k i j a b o h y =
-      wrote-kept N (value perm (cell e N)) (Named m v n) t e w (λ k' i' j' s. omega arith) k i j a (omega arith) (omega arith) (λ s. ⊎-elim (λ z. omega arith) (λ z. omega arith) y)
+  rewritten-kept = named-kept N (value perm (cell e N)) m v n hn t e w
 
   -- the cells of stretches i < j < n are those after the call
   pub rewritten-after : (k i j : ℕ) → 1 ≤ k → k ≤ m → i < j → j < n → cell e N k i j ≡ after perm (cell t N) v k i j
@@ -58,7 +62,7 @@ rewritten-unique N perm m v n o hn t e f w x =
     (as-after N perm m v n hn t e w) (as-after N perm m v n hn t f x)
 
 -- a stretch of n + 1 samples without the last is one of n samples
-earlier : (n i j : ℕ) → i < j → j < n + 1 → Without n i j → j < n
+pub earlier : (n i j : ℕ) → i < j → j < n + 1 → Without n i j → j < n
 earlier n i j o h (inl y) = y
 earlier n i j o h (inr y) = absurd (omega arith)
 

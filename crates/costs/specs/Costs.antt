@@ -1,15 +1,17 @@
 -- The permissions of a trace, the cells that a call about a sample names, what it writes into them, and how many they are. Assumes nothing.
+use mathlib.Core.Path.{_≡_}
 use mathlib.Core.Bool.{Bool, _&&_, cond}
 use mathlib.Core.List.{List}
 use mathlib.Core.Logic.{_⊎_}
 use Prim.Native.Nat.{ℕ, zero, suc, _+_, _-_, _≤_, _<_}
 use lib.Dec.{leb, ltb}
 use lib.IntN.{ℤ}
-use lib.ListN.{getD}
+use lib.ListN.{length, getD}
 use Rattle.geometry.specs.Near.{Permitted}
 use Rattle.geometry.specs.Test.{permits}
 use Rattle.family.specs.Family.{value}
-use Rattle.table.specs.Table.{cell, Wrote}
+use Rattle.family.specs.Path.{Written}
+use Rattle.table.specs.Table.{at, cell, Wrote}
 
 -- the stretch i to j of the samples is permitted at the tolerance of level k, as a statement and as the test that decides it (`perm-decided`)
 abbrev pub Permit : List ℤ → List ℤ → List ℕ → ℕ → ℕ → ℕ → Type 0
@@ -34,6 +36,12 @@ Named m v n k i j = (1 ≤ k) × (k ≤ m) × (i ≤ v) × (v ≤ j) × (i < j) 
 -- from t to e exactly the cells that S names are written, each with its value over the cells of e; every other address holds what it held
 abbrev pub Rewritten : ℕ → (ℕ → ℕ → ℕ → Bool) → (ℕ → ℕ → ℕ → Type 0) → List ℕ → List ℕ → Type 0
 Rewritten N perm S t e = Wrote N S (value perm (cell e N)) t e
+
+-- the same in the paper's words (`proofs/Meaning.antt` joins the two): each named cell holds what the paper says over the cells of e, those of this call as written and all others as found
+pub record CellsWritten (N : ℕ) (Permit : ℕ → ℕ → ℕ → Type 0) (m v n : ℕ) (t e : List ℕ) : Type 0 where
+  pub same : length e ≡ length t
+  pub named : (k i j : ℕ) → Named m v n k i j → Written Permit (cell e N) k i j (cell e N k i j)
+  pub other : (a : ℕ) → ((k i j : ℕ) → Named m v n k i j → a ≡ at N k i j → ⊥) → getD e a 0 ≡ getD t a 0
 
 -- whether a cell is named (`proofs/Tally.antt` shows that the test decides `Named`)
 abbrev pub namedTest : ℕ → ℕ → ℕ → ℕ → ℕ → ℕ → Bool

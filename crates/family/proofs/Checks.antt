@@ -24,7 +24,7 @@ module _ (c : ℕ → ℕ → ℕ → ℕ) (m n : ℕ) (near : (k x : ℕ) → 1
   pub near-small : m * n < none → (k i j : ℕ) → k ≤ m → i ≤ j → j < n → below c k i j < none
   near-small fits k i j a o h = omega (arith, near-bound k i j a o h, mul-le-mul {n₁ = k} {m₁ = j - i} {n₂ = m} {m₂ = n} a (omega arith))
 
-fine-near : (k x v : ℕ) → 1 ≤ k → Fine k x (suc x) v → v ≡ k
+pub fine-near : (k x v : ℕ) → 1 ≤ k → Fine k x (suc x) v → v ≡ k
 fine-near k x v a (inl f) = omega arith
 fine-near k x v a (inr f) = let e : suc x - x ≡ 1 = omega arith in omega (arith, rw (e, mul-one) at (f .1))
 

@@ -301,11 +301,3 @@ module _ (Permit : ℕ → ℕ → ℕ → Type 0) (perm : ℕ → ℕ → ℕ �
     pub minimal-ranks : (L : ℕ → List ℕ) → Levels.Family Permit m 0 (n - 1) L → Minimal perm m n (ranks L m) ↔ Levels.Minimal Permit m 0 (n - 1) L
     minimal-ranks L F =
         minimal-by (ranks L m) L (λ G. F, λ G. family-ranks m 0 (n - 1) (le-refl m) zero-le (omega arith) L F) (λ G. ranks-total Permit m 0 (n - 1) L F zero-le)
-
--- the five samples of the paper have the ranks 3, 0, 1, 1, 3
-five : ℕ → ℕ
-five x = getD (3 ∷ 0 ∷ 1 ∷ 1 ∷ 3 ∷ []) x 0
-
-five-levels : (levels five 0 4 1 ≡ 0 ∷ 2 ∷ 3 ∷ 4 ∷ []) × (levels five 0 4 2 ≡ 0 ∷ 4 ∷ []) × (levels five 0 4 3 ≡ 0 ∷ 4 ∷ []) × (size (levels five 0 4) 3 ≡ 5)
-unfolding five levels numbers size
-five-levels = (refl, refl, refl, refl)

@@ -12,5 +12,4 @@ pub mod Lists
 pub mod Foreign
 pub mod Levels
 pub mod Choices
-pub mod Examples
 pub mod Promise

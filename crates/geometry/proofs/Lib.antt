@@ -5,4 +5,3 @@ pub mod Link
 pub mod Move
 pub mod Plane
 pub mod Permits
-pub mod Cases

@@ -4,6 +4,8 @@ use mathlib.Core.List.{List}
 use Prim.Native.Nat.{ℕ, _-_, _≤_}
 use lib.ListN.{length, getD}
 use Rattle.family.specs.Family.{Readout, segments, total}
+use Rattle.family.specs.Path.{ReadsBest}
+use Rattle.family.specs.Levels.{levels, size}
 use Rattle.table.specs.Table.{cell}
 
 -- a rank buffer as ranks of samples
@@ -27,3 +29,13 @@ pub record Counted (r : ℕ → ℕ) (m n : ℕ) (per : List ℕ) (sum : ℕ) : 
 pub record ReadBy (t : List ℕ) (N m n : ℕ) (r e per : List ℕ) (sum : ℕ) : Type 0 where
   pub ranks : Ranked t N m n r e
   pub counts : Counted (rank e) m n per sum
+
+-- the same in the paper's words (`proofs/Meaning.antt` joins the two): each level the best path between neighbours of the level above, and the counts those of the lists of sample numbers
+pub record RanksRead (t : List ℕ) (N m n : ℕ) (r e per : List ℕ) (sum : ℕ) : Type 0 where
+  pub same : length e ≡ length r
+  pub best : ReadsBest (cell t N) m n (rank e)
+  pub other : (x : ℕ) → n ≤ x → rank e x ≡ rank r x
+  pub room : length per ≡ 16
+  pub level : (k : ℕ) → 1 ≤ k → k ≤ m → getD per (k - 1) 0 ≡ length (levels (rank e) 0 (n - 1) k) - 1
+  pub past : (x : ℕ) → m ≤ x → getD per x 0 ≡ 0
+  pub all : sum ≡ size (levels (rank e) 0 (n - 1)) m

@@ -1,13 +1,12 @@
--- The paper's examples, as theorems about the definitions. Assumes nothing.
+-- The paper's record, as a theorem about the definition. Assumes nothing.
 use mathlib.Core.Path.{_≡_, refl}
-use mathlib.Core.List.{List, [], _∷_, _++_}
+use mathlib.Core.List.{List, [], _∷_}
 use Prim.Native.Nat.{ℕ}
 use lib.IntN.{pos}
 use Rattle.refusal.specs.declared.Outcome.the-variants.{Done}
 use Rattle.refusal.specs.Check.{allBelow}
 use Rattle.geometry.specs.Coordinate.{coordinateOk}
 use Rattle.record.specs.Record.{word, signed, signedAt, counter, spareOk, recordOutcome, decodeOutcome, decodeOf}
-use Rattle.record.specs.Pause.{fileLengthOk, recordsOutcome, fileOutcome, increase, increaseAt, pauseSum, pauseLineOf}
 
 -- 0A 00 01 00 84 03 00 00, then eight zeros
 abbrev pub ten-one : List ℕ
@@ -16,12 +15,3 @@ ten-one = 0x0a ∷ 0 ∷ 1 ∷ 0 ∷ 0x84 ∷ 3 ∷ 0 ∷ 0 ∷ 0 ∷ 0 ∷ 0 �
 pub record-example : decodeOf ten-one ≡ record { outcome = Done; across = pos 10; up = pos 1; pause = 900; rank = 0 }
 unfolding decodeOf decodeOutcome recordOutcome counter spareOk word signed signedAt coordinateOk allBelow
 record-example = refl
-
--- a record whose pause counter is low + 256 high
-abbrev pub paused : ℕ → ℕ → List ℕ
-paused low high = 0 ∷ 0 ∷ 0 ∷ 0 ∷ low ∷ high ∷ 0 ∷ 0 ∷ 0 ∷ 0 ∷ 0 ∷ 0 ∷ 0 ∷ 0 ∷ 0 ∷ 0 ∷ []
-
--- counters 500, 900, 120, 200
-pub pause-example : pauseLineOf (paused 0xf4 1 ++ paused 0x84 3 ++ paused 120 0 ++ paused 200 0) ≡ record { outcome = Done; sum = 600 }
-unfolding pauseLineOf fileOutcome fileLengthOk recordsOutcome recordOutcome counter spareOk word signed signedAt coordinateOk allBelow increase increaseAt pauseSum
-pause-example = refl

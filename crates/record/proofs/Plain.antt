@@ -16,7 +16,8 @@ use Rattle.refusal.specs.declared.Outcome.the-variants.{Done, Refused}
 use Rattle.refusal.specs.Number.{code}
 use Rattle.refusal.specs.Check.{andThen, First}
 use Rattle.refusal.proofs.Laws.{and-left, and-right, and-fails, all-at, some-fails}
-use Rattle.refusal.proofs.Plain.{by-equal, both-decided, first-row, first-one, numbered}
+use Rattle.refusal.proofs.Plain.{by-equal, both-decided}
+use Rattle.refusal.proofs.Rows.{first-row, first-one, numbered}
 use Rattle.geometry.specs.Coordinate.{coordinateOk}
 use Rattle.geometry.proofs.Coordinate.{coordinate-decided}
 use Rattle.record.specs.Record.{across, up, rank, spareOk, recordOutcome, decodeOutcome, decodeOf}

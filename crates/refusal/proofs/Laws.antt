@@ -1,5 +1,5 @@
 -- Laws of the tests: of `&&`, of `allBelow`, of a row of tests. Assumes nothing.
-use mathlib.Core.Path.{_≡_, refl, sym, subst}
+use mathlib.Core.Path.{_≡_, refl, sym, subst, _∙_}
 use mathlib.Core.Logic.{_⊎_, inl, inr, ⊎-elim}
 use mathlib.Core.Bool.{Bool, true, false, _&&_, true≢false}
 use Prim.Native.Nat.{ℕ, zero, suc, _+_, _≤_, _<_, zero-le}
@@ -106,3 +106,7 @@ need-refuses false r q o h = inl (refl, cc)
 pub then-done : (p o : Outcome) → andThen p o ≡ Done → (p ≡ Done) × (o ≡ Done)
 then-done Done o h = (refl, h)
 then-done (Refused r) o h = let z : _≡_ {A = ℕ} 0 1 = cc in let f : ⊥ = omega arith in absurd f
+
+-- a first outcome that is a refusal is the answer
+pub then-refused : {p q : Outcome} {r : Refusal} (o : Outcome) → q ≡ p → q ≡ Refused r → q ≡ andThen p o
+then-refused o e h = h ∙ simp (sym e ∙ h)

@@ -1,5 +1,5 @@
--- Tests and plain statements: when a test decides a statement, and that a row of tests is the row of statements. Assumes nothing.
-use mathlib.Core.Path.{_≡_, refl, sym, subst, _∙_}
+-- Tests and plain statements: when a test decides a statement. Assumes nothing.
+use mathlib.Core.Path.{_≡_, refl, sym, subst}
 use mathlib.Core.Logic.{_⊎_, inl, inr, ⊎-elim}
 use mathlib.Core.Bool.{Bool, true, false, _&&_, _||_, true≢false}
 use Prim.Native.Nat.{ℕ, zero, suc, _≤_, _<_}
@@ -7,12 +7,7 @@ use native.Mathlib.Nat.{not-suc-le-zero, le-step, le-of-suc-le-suc, lt-suc-self,
 use native.Mathlib.Omega.{arith}
 use lib.Dec.{leb, ltb, eqb}
 use borrow.Author.Tests.{leb-true, leb-false, ltb-true, ltb-false, eqb-true, eqb-false}
-use Rattle.refusal.specs.declared.Refusal.{Refusal}
-use Rattle.refusal.specs.declared.Refusal.the-variants.{Setup, Tolerance, Buffer, Held, Stored, Coordinate, Full, Missing, Few, Length, Record}
-use Rattle.refusal.specs.declared.Outcome.{Outcome}
-use Rattle.refusal.specs.declared.Outcome.the-variants.{Refused}
-use Rattle.refusal.specs.Number.{number, code}
-use Rattle.refusal.specs.Check.{need, allBelow, from-to, Decides, First}
+use Rattle.refusal.specs.Check.{allBelow, from-to, Decides}
 
 pub yes-decides : {P : Type 0} → P → Decides P true
 yes-decides p = record { right = λ t. p; wrong = λ t. absurd (true≢false t) }
@@ -44,6 +39,10 @@ decided false d = no (d .wrong refl)
 pub by-test : (P : Type 0) (m n : ℕ) → (m ≤ n → P) → (P → m ≤ n) → Decides P (leb m n)
 by-test P m n f g = record { right = λ t. f (leb-true m n t); wrong = λ t p. not-le-of-lt (leb-false m n t) (g p) }
 
+-- the test of an order decides it
+pub by-order : (m n : ℕ) → Decides (m ≤ n) (leb m n)
+by-order m n = by-test (m ≤ n) m n (λ h. h) (λ h. h)
+
 pub by-less : (m n : ℕ) → Decides (m < n) (ltb m n)
 by-less m n = record { right = ltb-true m n; wrong = λ t p. absurd (omega (arith, ltb-false m n t)) }
 
@@ -59,7 +58,7 @@ either-decided true t d f = yes-decides (inl (d .right refl))
 either-decided false t d f = carry inr (λ p. ⊎-elim (λ x. absurd (d .wrong refl x)) (λ x. x) p) f
 
 pub from-to-decided : (a b x : ℕ) → Decides ((a ≤ x) × (x ≤ b)) (from-to a b x)
-from-to-decided a b x = both-decided (leb a x) (leb x b) (by-test _ a x (λ h. h) (λ h. h)) (by-test _ x b (λ h. h) (λ h. h))
+from-to-decided a b x = both-decided (leb a x) (leb x b) (by-order a x) (by-order x b)
 
 -- a test of every number below n
 pub all-decided : (P : ℕ → Type 0) (f : ℕ → Bool) (n : ℕ) → ((k : ℕ) → k < n → Decides (P k) (f k)) → Decides ((k : ℕ) → k < n → P k) (allBelow n f)
@@ -71,30 +70,7 @@ all-decided P f (suc n) d =
     (λ p. (λ k l. p k (le-step l), p n (lt-suc-self n)))
     (both-decided (allBelow n f) (f n) (all-decided P f n (λ k l. d k (le-step l))) (d n (lt-suc-self n)))
 
--- a row of tests shows the row of statements, by what a passing and a failing test say of P
-pub first-row : {P : Type 0} (b : Bool) (r : Refusal) (o : Outcome) (rest : ℕ → Type 0)
-    → (b ≡ true → P → ⊥) → (b ≡ false → P) → rest (code o) → First (number r) P rest (code (need b (Refused r) o))
-first-row true r o rest passed failed h = inr (passed refl, h)
-first-row false r o rest passed failed h = inl (failed refl, refl)
-
--- and the row of statements leaves no choice
-pub first-one : (num : ℕ) (P : Type 0) (rest : ℕ → Type 0) → ((j k : ℕ) → rest j → rest k → j ≡ k) → (j k : ℕ) → First num P rest j → First num P rest k → j ≡ k
-first-one num P rest one j k x y =
-    ⊎-elim
-    (λ a. ⊎-elim (λ b. a .1 ∙ sym (b .1)) (λ b. absurd (b .0 (a .0))) y)
-    (λ a. ⊎-elim (λ b. absurd (a .0 (b .0))) (λ b. one j k (a .1) (b .1)) y)
-    x
-
--- no refusal has the number 0
-pub numbered : (r : Refusal) → number r ≡ 0 → ⊥
-numbered Setup h = omega arith
-numbered Tolerance h = omega arith
-numbered Buffer h = omega arith
-numbered Held h = omega arith
-numbered Stored h = omega arith
-numbered Coordinate h = omega arith
-numbered Full h = omega arith
-numbered Missing h = omega arith
-numbered Few h = omega arith
-numbered Length h = omega arith
-numbered Record h = omega arith
+-- a statement that is decided and not refuted holds
+pub not-refuted : {P : Type 0} (t : Bool) → Decides P t → ((P → ⊥) → ⊥) → P
+not-refuted true d h = d .right refl
+not-refuted false d h = absurd (h (d .wrong refl))

@@ -1,6 +1,8 @@
 // Why a call was refused, and the paper's number of each answer.
 ghost use mathlib.Core.Path.{_≡_};
+ghost use Rattle.refusal.specs.declared.Outcome.the-variants.{Refused};
 ghost use Rattle.refusal.specs.Number.{code};
+ghost use Rattle.refusal.specs.Check.{need as needOf, andThen};
 
 // In the order of the paper's numbers 1 to 11.
 pub enum Refusal {
@@ -42,4 +44,21 @@ pub fn number(o: Outcome) -> u8
             Refusal::Record => 11,
         },
     }
+}
+
+// One test of a row: where it holds the rest of the row decides, else this refusal is given.
+pub fn need(ok: bool, why: Refusal, rest: Outcome) -> Outcome
+    ensures { λ r. ⌜ r ≡ needOf ok (Refused why) rest ⌝ }
+{
+    if ok { rest } else { Outcome::Refused(why) }
+}
+
+// A row after another: the first refusal of the two.
+pub fn and_then(first: Outcome, rest: Outcome) -> Outcome
+    ensures { λ r. ⌜ r ≡ andThen first rest ⌝ }
+{
+    let Outcome::Done = first else {
+        return first;
+    };
+    rest
 }

@@ -1,0 +1,91 @@
+-- What follows of a sound state: the levels that a read gives, and the numbers that cannot arise; and the number of a state with no level. Assumes nothing.
+use mathlib.Core.Path.{_≡_, refl, sym, subst}
+use mathlib.Core.Logic.{⊎-elim}
+use mathlib.Core.Bool.{true, false, _&&_, _||_, true≢false}
+use Prim.Native.Nat.{ℕ, _≤_}
+use native.Mathlib.Omega.{arith}
+use lib.Dec.{eqb}
+use Rattle.refusal.specs.declared.Outcome.the-variants.{Done}
+use Rattle.refusal.proofs.Rows.{code-one, first-taken, first-passed, first-has}
+use Rattle.family.proofs.Checks.{room}
+use Rattle.family.proofs.Costs.{genuine-checked}
+use Rattle.table.specs.Table.{cell}
+use Rattle.costs.specs.Costs.{Permit, perm}
+use Rattle.costs.proofs.Perm.{perm-adjacent}
+use Rattle.costs.proofs.Meaning.{permissions, genuine-is}
+use Rattle.readout.proofs.Meaning.{read-chosen, ranks-read}
+use Rattle.trace.specs.declared.Levels.{Levels}
+use Rattle.trace.specs.Numbers.{TraceNumber, StoredSamples, StoredCells}
+use Rattle.trace.proofs.Passed.{read-passed}
+use Rattle.history.specs.Run.{State, Call, Answer, Step, answered}
+use Rattle.history.specs.Run.Call.{read}
+use Rattle.history.specs.Run.Answer.{levels}
+use Rattle.history.specs.Run.Step.{starts, adds, corrects, asks, reads}
+use Rattle.history.specs.Hold.{Shown, onTrace}
+use Rattle.history.proofs.Sound.{Sound, state-is}
+
+pub sound-shown : {s e : State} {r : Levels} → Sound s → Step s e read (levels r) → answered (levels r) ≡ 0 → Shown e r
+sound-shown {s} {e} {r} S (reads G t) h =
+    let d : r .outcome ≡ Done = code-one (r .outcome) Done h in
+    let a = s .trace in
+    let b = s .lent in
+    let p = read-passed a (b .across) (b .upward) (b .table) (s .ranks) (rw d at (G .number)) in
+    let W = G .done d in
+    let B = ranks-read (b .table) (a .capacity) (a .levels) (a .held) (p .0 .sized .0) (S .few) (omega arith) (omega arith) (p .1 .cells) (s .ranks) (e .ranks) (r .segments) (r .total) W in
+    subst (λ (u : State). Shown u r) (sym (state-is t (G .lent) refl)) (record {
+      chosen = read-chosen (b .table) (a .capacity) (a .levels) (a .held) (s .ranks) (e .ranks) (r .segments) (r .total) B (omega arith)
+          (Permit (b .across) (b .upward) (a .tolerances)) (perm (b .across) (b .upward) (a .tolerances)) (perm-adjacent (b .across) (b .upward) (a .tolerances))
+          (room (a .levels) (a .held) (S .few) (omega arith)) (permissions (b .across) (b .upward) (a .tolerances) (a .levels) (a .held) (S .across) (S .upward)) (S .costs);
+      level = W .level;
+      past = W .past;
+      total = W .all;
+    })
+
+-- ---- numbers
+module _ (s : State) (S : Sound s) where
+  -- check 5 holds
+  stored-samples : StoredSamples (s .trace) (s .lent .across) (s .lent .upward)
+  stored-samples q h = (S .across .each q h, S .upward .each q h)
+
+  stored-cells : StoredCells (s .trace) (s .lent .table)
+  stored-cells =
+      let a = s .trace in
+      let b = s .lent in
+      let n : a .held ≤ 256 = omega arith in
+      genuine-checked (perm (b .across) (b .upward) (a .tolerances)) (perm-adjacent (b .across) (b .upward) (a .tolerances)) (cell (b .table) (a .capacity)) (a .levels) (a .held)
+      (room (a .levels) (a .held) (S .few) n)
+      (genuine-is (b .across) (b .upward) (a .tolerances) (a .levels) (a .held) (S .across) (S .upward) (S .few) n (cell (b .table) (a .capacity)) .1 (S .costs))
+
+  -- so that of the numbers 1 to 5 only 1 and 3 are left: after a refused start the number is 1, after another it is 3 or a later one
+  trace-has : {Lent Stored R : Type 0} {k : ℕ} (Q : ℕ → Type 0) → Q 1 → Q 3 → (R → Q k) → Stored → TraceNumber (s .trace) Lent Stored (λ j. R) k → Q k
+  trace-has Q one three more stored F =
+      ⊎-elim
+      (λ z. subst Q (sym (first-taken (λ q. omega arith) F)) one)
+      (λ g.
+      first-has Q three (λ R. more (first-passed (λ n. n stored) (first-passed (λ n. omega arith) R)))
+      (first-passed (λ n. n (g .1)) (first-passed (λ n. n (g .0)) F)))
+      (S .setup)
+
+-- a call never gives 4 or 5, and 2 only where it is a start
+abbrev pub Possible : Call → ℕ → Type 0
+Possible c k = eqb k 4 || (eqb k 5 || (eqb k 2 && onTrace c)) ≡ false
+
+good : (c : Call) {k : ℕ} → k ≡ 0 → Possible c k
+good c z = subst (Possible c) (sym z) refl
+
+pub step-number : {s e : State} {c : Call} {r : Answer} → Sound s → Step s e c r → Possible c (answered r)
+step-number {c} S (starts G t l k) = first-has (Possible c) refl (first-has (Possible c) refl (good c)) (G .number)
+step-number {s} {c} S (adds G t k) =
+    trace-has s S (Possible c) refl refl (first-has (Possible c) refl (first-has (Possible c) refl (good c))) (stored-samples s S, stored-cells s S) (G .number)
+step-number {s} {c} S (corrects G t k) =
+    trace-has s S (Possible c) refl refl (first-has (Possible c) refl (first-has (Possible c) refl (good c))) (stored-samples s S, stored-cells s S) (G .number)
+step-number {s} {c} S (asks G t l k) = trace-has s S (Possible c) refl refl (first-has (Possible c) refl (good c)) (stored-samples s S) (G .number)
+step-number {s} {c} S (reads G t) = trace-has s S (Possible c) refl refl (first-has (Possible c) refl (good c)) (stored-samples s S, stored-cells s S) (G .number)
+
+-- with no level every call on a trace gives 1
+pub bare-number : {s e : State} {c : Call} {r : Answer} → s .trace .levels ≡ 0 → Step s e c r → onTrace c ≡ true → answered r ≡ 1
+bare-number z (starts G t l k) o = absurd (true≢false (sym o))
+bare-number z (adds G t k) o = first-taken (λ q. omega arith) (G .number)
+bare-number z (corrects G t k) o = first-taken (λ q. omega arith) (G .number)
+bare-number z (asks G t l k) o = first-taken (λ q. omega arith) (G .number)
+bare-number z (reads G t) o = first-taken (λ q. omega arith) (G .number)

@@ -1,0 +1,150 @@
+-- The theorems of any sequence of calls, refused ones included. Assumes nothing.
+use mathlib.Core.Path.{_≡_, refl, sym, ap, subst, _∙_}
+use mathlib.Core.Bool.{true, true≢false}
+use mathlib.Core.List.{List, _∷_}
+use Prim.Native.Nat.{ℕ, _+_}
+use lib.IntN.{ℤ, pos}
+use lib.ListN.{length, length-set}
+use lib.Seq.{getD-set-other}
+use borrow.Author.Tests.{ne-eqb}
+use Rattle.refusal.specs.Number.{number, code}
+use Rattle.refusal.proofs.Laws.{and-left, and-right}
+use Rattle.refusal.proofs.Rows.{by-outcome, numbered}
+use Rattle.trace.specs.declared.Trace.{Trace}
+use Rattle.trace.specs.declared.Started.{Started}
+use Rattle.trace.specs.declared.Changed.{Changed}
+use Rattle.trace.specs.declared.Levels.{Levels}
+use Rattle.trace.specs.Calls.{Put, holding}
+use Rattle.trace.proofs.Unique.{start-one, add-one, correct-one, ask-one, read-one}
+use Rattle.history.specs.Run.{State, Call, Answer, Step, Run, answered}
+use Rattle.history.specs.Run.Call.{start, add, correct, ask, read}
+use Rattle.history.specs.Run.Answer.{started, changed, said, levels}
+use Rattle.history.specs.Run.Step.{starts, adds, corrects, asks, reads}
+use Rattle.history.specs.Run.Run.{none, next}
+use Rattle.history.specs.Hold.{CostsHeld, Shown, Touched, MayChange, RefusedLeaves, heldAfter, onTrace, allOnTrace}
+use Rattle.history.proofs.Sound.{Sound, state-is, lent-is, not-put, started-sound, step-sound}
+use Rattle.history.proofs.Follows.{sound-shown, Possible, step-number, bare-number}
+
+run-sound : {s e : State} {cs : List Call} {rs : List Answer} → Sound s → Run s cs rs e → Sound e
+run-sound S none = S
+run-sound S (next p R) = run-sound (step-sound S p) R
+
+-- ---- from any state a start, whether refused or not, and after it any calls
+pub sound : {s e : State} {m N : ℕ} {tols : List ℕ} {cs : List Call} {rs : List Answer} → Run s (start m N tols ∷ cs) rs e → Sound e
+sound {s} (next p R) = run-sound (started-sound {s = s} p) R
+
+module _ {s e : State} {m N : ℕ} {tols : List ℕ} {cs : List Call} {rs : List Answer} where
+  -- every held cost is the one the definition gives for the samples as they then stand
+  pub demand-3 : Run s (start m N tols ∷ cs) rs e → CostsHeld e
+  demand-3 R = sound R .costs
+
+  -- and a read, which changes neither samples nor setup (`step-changes`), gives the levels of their chosen minimal family and the counts of these
+  pub demand-2 : {f : State} {r : Levels} → Run s (start m N tols ∷ cs) rs e → Step e f read (levels r) → answered (levels r) ≡ 0 → Shown f r
+  demand-2 R p h = sound-shown (sound R) p h
+
+  possible : {f : State} {c : Call} {r : Answer} → Run s (start m N tols ∷ cs) rs e → Step e f c r → (k : ℕ) → answered r ≡ k → Possible c k
+  possible {c = c} R p k h = subst (Possible c) h (step-number (sound R) p)
+
+  -- so no call is refused with 4 or 5, and none but a start with 2
+  pub never-5 : {f : State} {c : Call} {r : Answer} → Run s (start m N tols ∷ cs) rs e → Step e f c r → answered r ≡ 5 → ⊥
+  never-5 R p h = true≢false (possible R p 5 h)
+
+  pub never-4 : {f : State} {c : Call} {r : Answer} → Run s (start m N tols ∷ cs) rs e → Step e f c r → answered r ≡ 4 → ⊥
+  never-4 R p h = true≢false (possible R p 4 h)
+
+  pub never-2 : {f : State} {c : Call} {r : Answer} → Run s (start m N tols ∷ cs) rs e → Step e f c r → onTrace c ≡ true → answered r ≡ 2 → ⊥
+  never-2 R p o h = true≢false (rw o at (possible R p 2 h))
+
+-- ---- what a call changes
+put-touched : (s e : State) (v n : ℕ) (x y : ℤ) (r : Changed) → Put (s .trace) (s .lent) v n x y r (e .lent) → e .trace ≡ r .trace → e .ranks ≡ s .ranks → Touched v n s e
+put-touched s e v n x y r P t k = record {
+  setup = rw (t ∙ P .trace) refl;
+  places = (ap length (P .across) ∙ simp length-set, ap length (P .upward) ∙ simp length-set, P .cells .same);
+  across = λ q h. rw (P .across) (getD-set-other (s .lent .across) v q x (pos 0) h);
+  upward = λ q h. rw (P .upward) (getD-set-other (s .lent .upward) v q y (pos 0) h);
+  cells = P .cells .other;
+  ranks = k;
+}
+
+not-touched : (s e : State) (v n : ℕ) → e ≡ s → Touched v n s e
+not-touched s e v n z = subst (Touched v n s) (sym z) (record {
+  setup = refl;
+  places = (refl, refl, refl);
+  across = λ q h. refl;
+  upward = λ q h. refl;
+  cells = λ a h. refl;
+  ranks = refl;
+})
+
+pub step-changes : {s e : State} {c : Call} {r : Answer} → Step s e c r → MayChange c s e
+step-changes (starts G t l k) = (l, k)
+step-changes {s} {e} (adds {x = x} {y = y} {r = r} G t k) =
+    by-outcome (r .outcome) (λ d. put-touched s e (s .trace .held) (s .trace .held + 1) x y r (G .done d) t k)
+    (λ w h. not-touched s e (s .trace .held) (s .trace .held + 1) (not-put (G .refused w h) t k))
+step-changes {s} {e} (corrects {v = v} {x = x} {y = y} {r = r} G t k) =
+    by-outcome (r .outcome) (λ d. put-touched s e v (s .trace .held) x y r (G .done d) t k) (λ w h. not-touched s e v (s .trace .held) (not-put (G .refused w h) t k))
+step-changes (asks G t l k) = state-is l (lent-is (G .lent .0) (G .lent .1) t) k
+step-changes {s} {e} (reads {r = r} G t) =
+    by-outcome (r .outcome) (λ d. record { trace = t; lent = G .lent; places = G .done d .same; ranks = G .done d .other })
+    (λ w h. let z : e .ranks ≡ s .ranks = G .refused w h .kept in record { trace = t; lent = G .lent; places = rw z refl; ranks = λ x l. rw z refl })
+
+-- a refused call leaves everything as it was, a refused start all but the trace
+pub refused-keeps : {s e : State} {c : Call} {r : Answer} → Step s e c r → (answered r ≡ 0 → ⊥) → RefusedLeaves c s e
+refused-keeps (starts {r = r} G t l k) n = by-outcome (r .outcome) (λ d. absurd (n (ap code d))) (λ w h. (t ∙ G .refused w h, l, k))
+refused-keeps (adds {r = r} G t k) n = by-outcome (r .outcome) (λ d. absurd (n (ap code d))) (λ w h. not-put (G .refused w h) t k)
+refused-keeps (corrects {r = r} G t k) n = by-outcome (r .outcome) (λ d. absurd (n (ap code d))) (λ w h. not-put (G .refused w h) t k)
+refused-keeps (asks G t l k) n = state-is l (lent-is (G .lent .0) (G .lent .1) t) k
+refused-keeps (reads {r = r} G t) n = by-outcome (r .outcome) (λ d. absurd (n (ap code d))) (λ w h. state-is t (G .lent) (G .refused w h .kept))
+
+-- only start and add change how many samples are held
+pub step-held : {s e : State} {c : Call} {r : Answer} → Step s e c r → e .trace .held ≡ heldAfter c (answered r) (s .trace .held)
+step-held (starts {r = r} G t l k) = by-outcome (r .outcome) (λ d. rw (t ∙ G .done d) refl) (λ w h. rw (t ∙ G .refused w h) refl)
+step-held (adds {r = r} G t k) =
+    by-outcome (r .outcome) (λ d. rw (t ∙ G .done d .trace, d) refl) (λ w h. rw (t ∙ G .refused w h .trace, h, ne-eqb (number w) 0 (numbered w)) refl)
+step-held (corrects {r = r} G t k) = by-outcome (r .outcome) (λ d. rw (t ∙ G .done d .trace) refl) (λ w h. rw (t ∙ G .refused w h .trace) refl)
+step-held (asks G t l k) = rw l refl
+step-held (reads G t) = rw t refl
+
+-- ---- the setup stays that of the last start
+changes-setup : (c : Call) (s e : State) → MayChange c s e → onTrace c ≡ true → e .trace ≡ holding (s .trace) (e .trace .held)
+changes-setup (start m N tols) s e M h = absurd (true≢false (sym h))
+changes-setup (add x y) s e M h = M .setup
+changes-setup (correct v x y) s e M h = M .setup
+changes-setup (ask k i j) s e M h = rw M refl
+changes-setup read s e M h = rw (M .trace) refl
+
+pub run-setup : {s e : State} {cs : List Call} {rs : List Answer} → Run s cs rs e → allOnTrace cs ≡ true → e .trace ≡ holding (s .trace) (e .trace .held)
+run-setup none h = refl
+run-setup {s} {e} (next {u = u} {c = c} {cs = cs} p R) h =
+    run-setup R (and-right (onTrace c) (allOnTrace cs) h)
+    ∙ ap (λ (a : Trace). holding a (e .trace .held)) (changes-setup c s u (step-changes p) (and-left (onTrace c) (allOnTrace cs) h))
+
+pub started-setup : {s e : State} {m N : ℕ} {tols : List ℕ} {r : Started} {cs : List Call} {rs : List Answer} → Run s (start m N tols ∷ cs) (started r ∷ rs) e
+    → allOnTrace cs ≡ true → e .trace ≡ holding (r .trace) (e .trace .held)
+started-setup {e = e} (next (starts G t l k) R) h = run-setup R h ∙ ap (λ (a : Trace). holding a (e .trace .held)) t
+
+-- so after a refused start every call on its trace is refused with 1
+pub refused-later : {s e f : State} {m N : ℕ} {tols : List ℕ} {cs : List Call} {rs : List Answer} {c : Call} {r q : Answer} → Run s (start m N tols ∷ cs) (r ∷ rs) e
+    → (answered r ≡ 0 → ⊥) → allOnTrace cs ≡ true → Step e f c q → onTrace c ≡ true → answered q ≡ 1
+refused-later (next p R) n h q o = bare-number (ap (λ (a : Trace). a .levels) (run-setup R h) ∙ ap (λ (a : Trace). a .levels) (refused-keeps p n .0)) q o
+
+-- ---- one result
+pub step-one : {s e f : State} {c : Call} {r q : Answer} → Step s e c r → Step s f c q → (r ≡ q) × (e ≡ f)
+step-one {s} {e} {f} (starts {m = m} {N = N} {tols = tols} {r = r} G t l k) (starts {r = q} H u w z) =
+    let o = start-one m N tols r q G H in (ap started o, state-is (t ∙ ap (λ (r : Started). r .trace) o ∙ sym u) (l ∙ sym w) (k ∙ sym z))
+step-one {s} {e} {f} (adds {x = x} {y = y} {r = r} G t k) (adds {r = q} H u z) =
+    let o = add-one (s .trace) (s .lent) x y r q (e .lent) (f .lent) G H in (ap changed (o .0), state-is (t ∙ ap (λ (r : Changed). r .trace) (o .0) ∙ sym u) (o .1) (k ∙ sym z))
+step-one {s} {e} {f} (corrects {v = v} {x = x} {y = y} {r = r} G t k) (corrects {r = q} H u z) =
+    let o = correct-one (s .trace) (s .lent) v x y r q (e .lent) (f .lent) G H in (ap changed (o .0), state-is (t ∙ ap (λ (r : Changed). r .trace) (o .0) ∙ sym u) (o .1) (k ∙ sym z))
+step-one {s} {e} {f} (asks {k = l} {i = i} {j = j} {r = r} G b t k) (asks {r = q} H d u z) =
+    let o = ask-one (s .trace) (s .lent .across) (s .lent .upward) l i j r q (e .lent .across) (f .lent .across) (e .lent .upward) (f .lent .upward) G H in
+    (ap said (o .0), state-is (t ∙ sym u) (lent-is (o .1) (o .2) (b ∙ sym d)) (k ∙ sym z))
+step-one {s} {e} {f} (reads {r = r} G t) (reads {r = q} H u) =
+    let o = read-one (s .trace) (s .lent) (s .ranks) r q (e .lent) (f .lent) (e .ranks) (f .ranks) G H in (ap levels (o .0), state-is (t ∙ sym u) (o .1) (o .2))
+
+pub run-one : {s e f : State} {cs : List Call} {rs qs : List Answer} → Run s cs rs e → Run s cs qs f → (rs ≡ qs) × (e ≡ f)
+run-one none none = (refl, refl)
+run-one {s} {e} {f} (next p R) (next {cs = cs} {rs = qs} q T) =
+    let o = step-one p q in
+    let z = run-one R (subst (λ (u : State). Run u cs qs f) (sym (o .1)) T) in
+    (rw (o .0, z .0), z .1)

@@ -1,0 +1,151 @@
+-- What holds of every state after a start: a start gives it, from any state, and each call keeps it. Assumes nothing.
+use mathlib.Core.Path.{_≡_, refl, sym, subst, _∙_}
+use mathlib.Core.Logic.{_⊎_, inl, inr, ⊎-elim}
+use mathlib.Core.List.{List}
+use Prim.Native.Nat.{ℕ, _+_, _-_, _≤_, _<_, zero-le}
+use native.Mathlib.Decide.{decLt}
+use native.Mathlib.Omega.{arith}
+use lib.IntN.{ℤ}
+use lib.ListN.{length, getD, set, take, replicate, length-take, List·getD-append, List·getD-eq-default}
+use lib.Seq.{getD-take}
+use Rattle.refusal.proofs.Rows.{by-outcome}
+use Rattle.geometry.specs.Coordinate.{InRange}
+use Rattle.family.specs.Levels as Levels
+use Rattle.table.specs.Table.{cell}
+use Rattle.costs.specs.Costs.{Permit, perm, Named, Rewritten}
+use Rattle.costs.proofs.Meaning.{cells-rewritten, added-costs, corrected-costs}
+use Rattle.trace.specs.declared.Trace.{Trace}
+use Rattle.trace.specs.declared.Changed.{Changed}
+use Rattle.trace.specs.Numbers.{Sized, Tolerances, AddNumber, CorrectNumber}
+use Rattle.trace.specs.Calls.{Buffers, Put, NotPut, buffers, kept}
+use Rattle.trace.proofs.Passed.{Passed, start-passed, add-passed, correct-passed}
+use Rattle.trace.proofs.Calls.{Able, add-able, correct-able}
+use Rattle.history.specs.Run.{State, Call, Answer, Step}
+use Rattle.history.specs.Run.Call.{start}
+use Rattle.history.specs.Run.Step.{starts, adds, corrects, asks, reads}
+use Rattle.history.specs.Hold.{CostsHeld}
+
+-- the setup is that of a refused start, with no level and no sample, or a good one
+pub record Sound (s : State) : Type 0 where
+  pub few : s .trace .levels ≤ 16
+  pub small : s .trace .capacity ≤ 256
+  pub held : s .trace .held ≤ s .trace .capacity
+  pub across : InRange (s .lent .across) (s .trace .held)
+  pub upward : InRange (s .lent .upward) (s .trace .held)
+  pub costs : CostsHeld s
+  pub setup : ((s .trace .levels ≡ 0) × (s .trace .held ≡ 0)) ⊎ (Sized (s .trace .levels) (s .trace .capacity) × Tolerances (s .trace .levels) (s .trace .tolerances))
+
+-- a state is its parts
+abbrev state : Trace → Buffers → List ℕ → State
+state a b ranks = record { trace = a; lent = b; ranks = ranks }
+
+pub state-is : {s : State} {a : Trace} {b : Buffers} {ranks : List ℕ} → s .trace ≡ a → s .lent ≡ b → s .ranks ≡ ranks → s ≡ state a b ranks
+state-is {s} {a} {b} {ranks} p q u = let f : state (s .trace) (s .lent) (s .ranks) ≡ state a b ranks = cc in f
+
+pub lent-is : {b : Buffers} {xs ys : List ℤ} {t : List ℕ} → b .across ≡ xs → b .upward ≡ ys → b .table ≡ t → b ≡ buffers xs ys t
+lent-is {b} {xs} {ys} {t} p q u = let f : buffers (b .across) (b .upward) (b .table) ≡ buffers xs ys t = cc in f
+
+pub not-put : {s e : State} {r : Changed} → NotPut (s .trace) (s .lent) r (e .lent) → e .trace ≡ r .trace → e .ranks ≡ s .ranks → e ≡ s
+not-put P t k = state-is (t ∙ P .trace) (P .lent) k
+
+-- ---- start
+-- it keeps the tolerances of its levels
+kept-at : {m : ℕ} {tols : List ℕ} → Tolerances m tols → (l : ℕ) → l < m → getD (kept m tols) l 0 ≡ getD tols l 0
+kept-at {m} {tols} T l h = elim (decLt l (length tols)) [
+  | yes y ↦ List·getD-append (take m tols) (replicate (16 - m) 0) 0 l (omega (arith, length-take m tols)) ∙ getD-take m tols l 0 h
+  | no y ↦ absurd (omega (arith, T .low l h, List·getD-eq-default tols 0 {n = l} (omega arith)))
+]
+
+kept-tolerances : {m : ℕ} {tols : List ℕ} → Tolerances m tols → Tolerances m (kept m tols)
+kept-tolerances {m} {tols} T = record {
+  low = λ l h. rw (kept-at T l h) (T .low l h);
+  high = λ l h. rw (kept-at T l h) (T .high l h);
+  rise = λ l h. rw (kept-at T l (omega arith), kept-at T (l + 1) h) (T .rise l h);
+}
+
+-- with no sample held there is no coordinate and no stretch
+none-held : {xs : List ℤ} → InRange xs 0
+none-held = record { held = zero-le; each = λ k l. absurd (omega arith) }
+
+empty-sound : (m N : ℕ) (tols : List ℕ) (b : Buffers) (ranks : List ℕ) → m ≤ 16 → N ≤ 256 → (m ≡ 0) ⊎ (Sized m N × Tolerances m tols)
+    → Sound (state (record { levels = m; capacity = N; held = 0; tolerances = tols }) b ranks)
+empty-sound m N tols b ranks p q g = record {
+  few = p;
+  small = q;
+  held = zero-le;
+  across = none-held;
+  upward = none-held;
+  costs = λ k i j a d o h. absurd (omega arith);
+  setup = ⊎-elim (λ e. inl (e, refl)) inr g;
+}
+
+pub started-sound : {s e : State} {m N : ℕ} {tols : List ℕ} {r : Answer} → Step s e (start m N tols) r → Sound e
+started-sound {s} (starts {m = m} {N = N} {tols = tols} {r = r} G t l k) =
+    by-outcome (r .outcome)
+    (λ d.
+    let g = start-passed m N tols (rw d at (G .number)) in
+    subst Sound (sym (state-is (t ∙ G .done d) l k)) (empty-sound m N (kept m tols) (s .lent) (s .ranks) (g .0 .1) (g .0 .3) (inr (g .0, kept-tolerances (g .1)))))
+    (λ w h. subst Sound (sym (state-is (t ∙ G .refused w h) l k)) (empty-sound 0 0 (replicate 16 0) (s .lent) (s .ranks) zero-le zero-le (inl refl)))
+
+-- ---- add and correct
+-- sample v put, where writing its cells gives the costs
+put-sound : (s e : State) (v n : ℕ) (x y : ℤ) (r : Changed) → let a = s .trace in let b = s .lent in
+    Passed a (b .across) (b .upward) → Able a b v n x y
+    → (Rewritten (a .capacity) (perm (set (b .across) v x) (set (b .upward) v y) (a .tolerances)) (Named (a .levels) v n) (b .table) (e .lent .table)
+    → Levels.Costs (Permit (set (b .across) v x) (set (b .upward) v y) (a .tolerances)) (cell (e .lent .table) (a .capacity)) (a .levels) n)
+    → Put a b v n x y r (e .lent) → e .trace ≡ r .trace → Sound e
+put-sound s e v n x y r p A costs P t =
+    let a = s .trace in
+    let b = s .lent in
+    let R = A .ready in
+    let z = R .sizes in
+    let w = cells-rewritten (a .capacity) (set (b .across) v x) (set (b .upward) v y) (a .tolerances) (a .levels) v n (b .table) (z .1) (omega arith) (z .4)
+    (R .across) (R .upward) (A .fine) (e .lent .table) (rw (P .across, P .upward) at (P .cells)) in
+    subst Sound (sym (state-is (t ∙ P .trace) (lent-is (P .across) (P .upward) refl) refl)) (record {
+      few = z .1;
+      small = z .2;
+      held = z .4;
+      across = R .across;
+      upward = R .upward;
+      costs = costs w;
+      setup = inr (p .sized, p .tolerances);
+    })
+
+module _ (s e : State) (S : Sound s) (x y : ℤ) (r : Changed) (t : e .trace ≡ r .trace) where
+  add-sound : AddNumber (s .trace) (s .lent .across) (s .lent .upward) (s .lent .table) x y 0 → Put (s .trace) (s .lent) (s .trace .held) (s .trace .held + 1) x y r (e .lent) → Sound e
+  add-sound h P =
+      let a = s .trace in
+      let b = s .lent in
+      let A = add-able a b x y h in
+      put-sound s e (a .held) (a .held + 1) x y r (add-passed a (b .across) (b .upward) (b .table) x y h .0) A
+      (λ w. added-costs (a .capacity) (b .across) (b .upward) (a .tolerances) x y (a .levels) (a .held) (b .table) (e .lent .table) (S .few) (S .small) (S .across) (S .upward)
+      (omega (arith, A .ready .sizes)) (A .ready .across) (A .ready .upward) w (S .costs))
+      P t
+
+  correct-sound : (v : ℕ) → CorrectNumber (s .trace) (s .lent .across) (s .lent .upward) (s .lent .table) v x y 0 → Put (s .trace) (s .lent) v (s .trace .held) x y r (e .lent) → Sound e
+  correct-sound v h P =
+      let a = s .trace in
+      let b = s .lent in
+      let A = correct-able a b v x y h in
+      put-sound s e v (a .held) x y r (correct-passed a (b .across) (b .upward) (b .table) v x y h .0) A
+      (λ w. corrected-costs (a .capacity) (b .across) (b .upward) (a .tolerances) x y (a .levels) (a .held) (b .table) (e .lent .table) (S .few) (S .small) (S .across) (S .upward)
+      v (S .held) (A .ready .across) (A .ready .upward) w (S .costs))
+      P t
+
+-- ---- every call
+pub step-sound : {s e : State} {c : Call} {r : Answer} → Sound s → Step s e c r → Sound e
+step-sound {s} S (starts G t l k) = started-sound {s = s} (starts G t l k)
+step-sound {s} {e} S (adds {x = x} {y = y} {r = r} G t k) =
+    by-outcome (r .outcome) (λ d. add-sound s e S x y r t (rw d at (G .number)) (G .done d)) (λ w h. subst Sound (sym (not-put (G .refused w h) t k)) S)
+step-sound {s} {e} S (corrects {v = v} {x = x} {y = y} {r = r} G t k) =
+    by-outcome (r .outcome) (λ d. correct-sound s e S x y r t v (rw d at (G .number)) (G .done d)) (λ w h. subst Sound (sym (not-put (G .refused w h) t k)) S)
+step-sound S (asks G t l k) = subst Sound (sym (state-is l (lent-is (G .lent .0) (G .lent .1) t) k)) S
+step-sound S (reads G t) = subst Sound (sym (state-is t (G .lent) refl)) (record {
+  few = S .few;
+  small = S .small;
+  held = S .held;
+  across = S .across;
+  upward = S .upward;
+  costs = S .costs;
+  setup = S .setup;
+})

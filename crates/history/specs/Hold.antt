@@ -1,0 +1,87 @@
+-- What holds of a state, and what a call may change. Assumes nothing.
+use mathlib.Core.Path.{_≡_}
+use mathlib.Core.Bool.{Bool, true, false, _&&_, cond}
+use mathlib.Core.List.{List, [], _∷_}
+use Prim.Native.Nat.{ℕ, _+_, _-_, _≤_}
+use lib.Dec.{eqb}
+use lib.IntN.{pos}
+use lib.ListN.{length, getD}
+use Rattle.family.specs.Levels as Levels
+use Rattle.table.specs.Table.{at, cell}
+use Rattle.costs.specs.Costs.{Permit, Named}
+use Rattle.readout.specs.Read.{rank}
+use Rattle.trace.specs.declared.Levels.{Levels}
+use Rattle.trace.specs.Calls.{holding, noTrace}
+use Rattle.history.specs.Run.{State, Call}
+use Rattle.history.specs.Run.Call.{start, add, correct, ask, read}
+
+-- which stretch is permitted at which level: by the stored samples and the setup's tolerances
+abbrev pub Permitted : State → ℕ → ℕ → ℕ → Type 0
+Permitted s = Permit (s .lent .across) (s .lent .upward) (s .trace .tolerances)
+
+-- every cell of a stretch i < j < n is its cost
+abbrev pub CostsHeld : State → Type 0
+CostsHeld s = Levels.Costs (Permitted s) (cell (s .lent .table) (s .trace .capacity)) (s .trace .levels) (s .trace .held)
+
+-- the levels that a rank buffer gives the samples held
+abbrev pub levelsOf : State → ℕ → List ℕ
+levelsOf s = Levels.levels (rank (s .ranks)) 0 (s .trace .held - 1)
+
+-- those levels are the chosen minimal family of the samples as they stand, and the counts are theirs
+pub record Shown (s : State) (r : Levels) : Type 0 where
+  pub chosen : Levels.Chosen (Permitted s) (s .trace .levels) 0 (s .trace .held - 1) (levelsOf s)
+  pub level : (k : ℕ) → 1 ≤ k → k ≤ s .trace .levels → getD (r .segments) (k - 1) 0 ≡ length (levelsOf s k) - 1
+  pub past : (x : ℕ) → s .trace .levels ≤ x → getD (r .segments) x 0 ≡ 0
+  pub total : r .total ≡ Levels.size (levelsOf s) (s .trace .levels)
+
+-- from s to e at most these may differ: n, the coordinates of sample v, and the cells of stretches with v of n samples
+pub record Touched (v n : ℕ) (s e : State) : Type 0 where
+  pub setup : e .trace ≡ holding (s .trace) (e .trace .held)
+  pub places : (length (e .lent .across) ≡ length (s .lent .across)) × (length (e .lent .upward) ≡ length (s .lent .upward)) × (length (e .lent .table) ≡ length (s .lent .table))
+  pub across : (q : ℕ) → (q ≡ v → ⊥) → getD (e .lent .across) q (pos 0) ≡ getD (s .lent .across) q (pos 0)
+  pub upward : (q : ℕ) → (q ≡ v → ⊥) → getD (e .lent .upward) q (pos 0) ≡ getD (s .lent .upward) q (pos 0)
+  pub cells : (a : ℕ) → ((k i j : ℕ) → Named (s .trace .levels) v n k i j → a ≡ at (s .trace .capacity) k i j → ⊥) → getD (e .lent .table) a 0 ≡ getD (s .lent .table) a 0
+  pub ranks : e .ranks ≡ s .ranks
+
+-- and here the ranks of the samples held
+pub record Ranked (s e : State) : Type 0 where
+  pub trace : e .trace ≡ s .trace
+  pub lent : e .lent ≡ s .lent
+  pub places : length (e .ranks) ≡ length (s .ranks)
+  pub ranks : (x : ℕ) → s .trace .held ≤ x → rank (e .ranks) x ≡ rank (s .ranks) x
+
+-- what each call may change
+abbrev pub MayChange : Call → State → State → Type 0
+MayChange (start m N tols) s e = (e .lent ≡ s .lent) × (e .ranks ≡ s .ranks)
+MayChange (add x y) s e = Touched (s .trace .held) (s .trace .held + 1) s e
+MayChange (correct v x y) s e = Touched v (s .trace .held) s e
+MayChange (ask k i j) s e = e ≡ s
+MayChange read s e = Ranked s e
+
+-- what a refused call leaves: a refused start the trace that every later call refuses, any other everything as it was
+abbrev pub RefusedLeaves : Call → State → State → Type 0
+RefusedLeaves (start m N tols) s e = (e .trace ≡ noTrace) × (e .lent ≡ s .lent) × (e .ranks ≡ s .ranks)
+RefusedLeaves (add x y) s e = e ≡ s
+RefusedLeaves (correct v x y) s e = e ≡ s
+RefusedLeaves (ask k i j) s e = e ≡ s
+RefusedLeaves read s e = e ≡ s
+
+-- how many samples are held after a call that gives the number k, by how many were
+abbrev pub heldAfter : Call → ℕ → ℕ → ℕ
+heldAfter (start m N tols) k n = 0
+heldAfter (add x y) k n = cond (eqb k 0) (n + 1) n
+heldAfter (correct v x y) k n = n
+heldAfter (ask l i j) k n = n
+heldAfter read k n = n
+
+-- a call on a trace is every one but start
+abbrev pub onTrace : Call → Bool
+onTrace (start m N tols) = false
+onTrace (add x y) = true
+onTrace (correct v x y) = true
+onTrace (ask k i j) = true
+onTrace read = true
+
+abbrev pub allOnTrace : List Call → Bool
+allOnTrace [] = true
+allOnTrace (c ∷ cs) = onTrace c && allOnTrace cs

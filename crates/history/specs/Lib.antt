@@ -1,0 +1,2 @@
+pub mod Run
+pub mod Hold

@@ -1,0 +1,2 @@
+pub mod Worked
+pub mod Starred

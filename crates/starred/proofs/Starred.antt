@@ -1,0 +1,32 @@
+-- The starred cases hold: each is worked out. Assumes nothing.
+use mathlib.Core.Path.{refl}
+use Rattle.refusal.specs.Check.{allBelow}
+use Rattle.algebra.specs.Gap.{gap}
+use Rattle.geometry.specs.Coordinate.{coordinateOk, coordinatesOk}
+use Rattle.geometry.specs.Shifted.{apart}
+use Rattle.geometry.specs.Test.{cross-sq, reaches, permits}
+use Rattle.family.specs.Family.{cells, value, below, least, least-by, via, hop, next, along, rank, total, segments}
+use Rattle.costs.specs.Costs.{perm}
+use Rattle.record.specs.Record.{word, signed, signedAt, counter, spareOk, recordOutcome}
+use Rattle.record.specs.Pause.{fileLengthOk, recordsOutcome, fileOutcome, increase, increaseAt, pauseSum, pauseLineOf}
+use Rattle.starred.specs.Cases.{All, starred}
+use Rattle.starred.proofs.Worked.{AllWorked, all-hold}
+
+infixr 4 _and_
+abbrev _and_ : {A B : Type 0} → A → B → A × B
+a and b = (a, b)
+
+worked : AllWorked starred
+unfolding coordinatesOk coordinateOk perm permits allBelow reaches apart gap cross-sq cells value below least least-by via hop next along rank total segments
+    pauseLineOf fileOutcome fileLengthOk recordsOutcome recordOutcome counter spareOk word signed signedAt increase increaseAt pauseSum
+worked =
+    -- stretches
+    (refl, refl) and (refl, refl) and (refl, refl) and (refl, refl) and (refl, refl) and (refl, refl) and (refl, refl) and (refl, refl) and (refl, refl)
+    -- ranks and costs
+    and (refl, refl, refl, refl) and (refl, refl, refl, refl) and (refl, refl, refl) and (refl, refl, refl)
+    and (refl, refl, refl) and (refl, refl, refl) and (refl, refl, refl) and (refl, refl, refl)
+    -- two samples, one sample, counters
+    and tt and refl and refl and tt
+
+pub by-hand : All starred
+by-hand = all-hold starred worked

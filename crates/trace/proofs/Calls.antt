@@ -1,0 +1,66 @@
+-- From what the checks answer, and what a change of a sample leaves, to what a call gives: on plain data. Assumes nothing.
+use mathlib.Core.Path.{_≡_, refl, sym, ap, _∙_}
+use Prim.Native.Nat.{ℕ, _+_, _≤_, _<_}
+use native.Mathlib.Omega.{arith}
+use lib.IntN.{ℤ}
+use lib.ListN.{set}
+use Rattle.refusal.specs.declared.Refusal.{Refusal}
+use Rattle.refusal.specs.declared.Outcome.{Outcome}
+use Rattle.refusal.specs.declared.Outcome.the-variants.{Done, Refused}
+use Rattle.refusal.specs.Number.{code}
+use Rattle.refusal.proofs.Rows.{numbered}
+use Rattle.family.specs.Fine.{Fine}
+use Rattle.family.proofs.Local.{Without}
+use Rattle.table.specs.Table.{cell}
+use Rattle.costs.proofs.Exit.{earlier}
+use Rattle.trace.specs.declared.Trace.{Trace}
+use Rattle.trace.specs.declared.Changed.{Changed}
+use Rattle.trace.specs.Numbers.{AddNumber, CorrectNumber}
+use Rattle.trace.specs.Calls.{Buffers, ChangeGives}
+use Rattle.trace.specs.Rows.{Ready, Changes}
+use Rattle.trace.proofs.Passed.{add-passed, correct-passed, add-ready, correct-ready}
+use Rattle.costs.proofs.Meaning.{rewritten-cells}
+
+-- no call is both carried out and refused
+pub done-refused : {A : Type 0} {o : Outcome} {why : Refusal} → o ≡ Done → o ≡ Refused why → A
+done-refused {why = why} h g = absurd (numbered why (ap code (sym g ∙ h)))
+
+-- what is known where the change of sample v, of n samples after it, is not refused: all that it asks, and that the cells of stretches without v pass check 5
+pub record Able (a : Trace) (b : Buffers) (v n : ℕ) (x y : ℤ) : Type 0 where
+  pub ready : Ready a (b .across) (b .upward) (b .table) v n x y
+  pub fine : (k i j : ℕ) → 1 ≤ k → k ≤ a .levels → i < j → j < n → Without v i j → Fine k i j (cell (b .table) (a .capacity) k i j)
+
+pub add-able : (a : Trace) (b : Buffers) (x y : ℤ) → AddNumber a (b .across) (b .upward) (b .table) x y 0 → Able a b (a .held) (a .held + 1) x y
+add-able a b x y h = record {
+  ready = add-ready a (b .across) (b .upward) (b .table) x y h;
+  fine = λ k i j l m o d w. add-passed a (b .across) (b .upward) (b .table) x y h .1 .cells k i j l m o (earlier (a .held) i j o d w);
+}
+
+pub correct-able : (a : Trace) (b : Buffers) (v : ℕ) (x y : ℤ) → CorrectNumber a (b .across) (b .upward) (b .table) v x y 0 → Able a b v (a .held) x y
+correct-able a b v x y h = record {
+  ready = correct-ready a (b .across) (b .upward) (b .table) v x y h;
+  fine = λ k i j l m o d w. correct-passed a (b .across) (b .upward) (b .table) v x y h .1 .cells k i j l m o d;
+}
+
+module _ {Number : ℕ → Type 0} {a : Trace} {b : Buffers} {v n : ℕ} {x y : ℤ} where
+  -- the checks refuse, and nothing is written
+  pub refused-gives : {o : Outcome} {why : Refusal} → Number (code o) → o ≡ Refused why → ChangeGives Number a b v n x y (record { outcome = o; trace = a; cells = 0 }) b
+  refused-gives h g = record {
+    number = h;
+    done = λ d. done-refused d g;
+    refused = λ w f. record { trace = refl; lent = refl; count = refl };
+  }
+
+  -- the sample is changed
+  pub changed-gives : {r : Changed} {e : Buffers} → Number 0 → Able a b v n x y
+      → Changes a (b .across) (b .upward) (b .table) v n x y r (e .across) (e .upward) (e .table) → ChangeGives Number a b v n x y r e
+  changed-gives {r} {e} h A C =
+      let R = A .ready in
+      let z = R .sizes in
+      let w = rewritten-cells (a .capacity) (set (b .across) v x) (set (b .upward) v y) (a .tolerances) (a .levels) v n (b .table)
+      (z .1) (omega arith) (z .4) (R .across) (R .upward) (A .fine) (e .table) (C .cells) in
+      record {
+        number = rw (C .outcome) h;
+        done = λ d. record { trace = C .trace; across = C .across; upward = C .upward; cells = rw (C .across, C .upward) w; count = C .count };
+        refused = λ w g. done-refused (C .outcome) g;
+      }

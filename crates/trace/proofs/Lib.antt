@@ -1,0 +1,6 @@
+pub mod Checks
+pub mod Numbers
+pub mod Passed
+pub mod Exactly
+pub mod Calls
+pub mod Unique

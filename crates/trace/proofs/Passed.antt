@@ -1,0 +1,173 @@
+-- What holds once a call is not refused: what the rest of every call, and every theorem about calls, may use. Assumes nothing.
+use mathlib.Core.Path.{_≡_, refl}
+use mathlib.Core.Logic.{inl}
+use mathlib.Core.Bool.{Bool}
+use mathlib.Core.List.{List}
+use Prim.Native.Nat.{ℕ, _+_, _≤_, _<_}
+use native.Mathlib.Nat.{le-trans, lt-of-not-le, not-le-of-lt}
+use native.Mathlib.Numerals.{lt-of-le-of-ne}
+use native.Mathlib.Decide.{ℕ-discrete}
+use native.Mathlib.Omega.{arith}
+use lib.IntN.{ℤ, pos}
+use lib.ListN.{length, length-set, getD, set}
+use lib.Seq.{getD-set-same, getD-set-other}
+use Rattle.refusal.specs.Check.{Decides, First}
+use Rattle.refusal.proofs.Rows.{Reached, reached-none, reached-as, reached-more, reached-unless}
+use Rattle.geometry.specs.Coordinate.{Coord, InRange}
+use Rattle.costs.specs.Costs.{Rising}
+use Rattle.costs.proofs.Exit.{added-steps, corrected-steps}
+use Rattle.trace.specs.declared.Trace.{Trace}
+use Rattle.trace.specs.Numbers.{Sized, Tolerances, LentSamples, LentTable, StoredSamples, StoredCells, Good, SetupNumber, TraceNumber, StartNumber, AddNumber, CorrectNumber, AskNumber, ReadNumber}
+use Rattle.trace.specs.Rows.{Ready}
+use Rattle.trace.proofs.Numbers.{setup-decided, tolerances-decided, lent-samples, lent-table, lent-ranks, samples-decided, stored-decided, sample-decided, missed, there}
+
+-- checks 1 to 5 of the setup and the coordinates
+pub record Passed (a : Trace) (xs ys : List ℤ) : Type 0 where
+  pub sized : Sized (a .levels) (a .capacity)
+  pub tolerances : Tolerances (a .levels) (a .tolerances)
+  pub lent : LentSamples a xs ys
+  pub held : a .held ≤ a .capacity
+  pub stored : StoredSamples a xs ys
+
+-- and of the table
+pub record PassedTable (a : Trace) (t : List ℕ) : Type 0 where
+  pub room : LentTable a t
+  pub cells : StoredCells a t
+
+-- ---- how far a call came, by its number: past checks 1 and 2
+module _ (m N : ℕ) (tols : List ℕ) {rest : ℕ → Type 0} {k : ℕ} (h : SetupNumber m N tols rest k) where
+  pub past-1 : Reached (Sized m N) 1 (First 2 (Tolerances m tols → ⊥) rest) k
+  past-1 = reached-unless 1 (omega arith) _ (setup-decided m N) (λ p. p .1, λ q. (tt, q)) (reached-none h)
+
+  pub past-2 : Reached (Sized m N × Tolerances m tols) 2 rest k
+  past-2 = reached-unless 2 (omega arith) _ (tolerances-decided m tols) (λ p. p, λ q. q) past-1
+
+-- past 3 to 5, by the tests of what is lent and what is stored
+module _ (a : Trace) {Lent Stored : Type 0} {s t : Bool} (lent : Decides Lent s) (stored : Decides Stored t) {rest : ℕ → Type 0} {k : ℕ} (h : TraceNumber a Lent Stored rest k) where
+  pub past-3 : Reached (Sized (a .levels) (a .capacity) × Tolerances (a .levels) (a .tolerances) × Lent) 3 (First 4 (a .capacity < a .held) (First 5 (Stored → ⊥) rest)) k
+  past-3 = reached-unless 3 (omega arith) s lent (λ p. (p .0 .0, p .0 .1, p .1), λ q. ((q .0, q .1), q .2)) (past-2 (a .levels) (a .capacity) (a .tolerances) h)
+
+  pub past-4 : Reached (Sized (a .levels) (a .capacity) × Tolerances (a .levels) (a .tolerances) × Lent × (a .held ≤ a .capacity)) 4 (First 5 (Stored → ⊥) rest) k
+  past-4 = reached-more 4 (omega arith) (λ p. (p .0 .0, p .0 .1, p .0 .2, omega (arith, lt-of-not-le (p .1))), λ q. ((q .0, q .1, q .2), λ l. omega (arith, q .3))) past-3
+
+  pub past-5 : Reached (Sized (a .levels) (a .capacity) × Tolerances (a .levels) (a .tolerances) × Lent × (a .held ≤ a .capacity) × Stored) 5 rest k
+  past-5 = reached-unless 5 (omega arith) t stored (λ p. (p .0 .0, p .0 .1, p .0 .2, p .0 .3, p .1), λ q. ((q .0, q .1, q .2, q .3), q .4)) past-4
+
+-- and past the last, of each call: ask is lent no table, and read the ranks as well
+module _ (a : Trace) (xs ys : List ℤ) where
+  pub samples-past : {rest : ℕ → Type 0} {k : ℕ} → TraceNumber a (LentSamples a xs ys) (StoredSamples a xs ys) rest k → Reached (Passed a xs ys) 5 rest k
+  samples-past h =
+      reached-as
+      (λ p. record { sized = p .0; tolerances = p .1; lent = p .2; held = p .3; stored = p .4 }, λ q. (q .sized, q .tolerances, q .lent, q .held, q .stored))
+      (past-5 a (lent-samples a xs ys) (samples-decided a xs ys) h)
+
+  pub ask-past : {n : ℕ} (k i j : ℕ) → AskNumber a xs ys k i j n → Reached (Passed a xs ys × (i < j) × (j < a .held) × (1 ≤ k) × (k ≤ a .levels)) 8 Good n
+  ask-past k i j h = reached-more 8 (omega arith) (λ p. let s = there (p .1) in (p .0, s .0, s .1, s .2, s .3), λ q. (q .0, λ n. missed n (q .1, q .2, q .3, q .4))) (samples-past h)
+
+  module _ (t : List ℕ) where
+    pub table-past : {rest : ℕ → Type 0} {k : ℕ} → TraceNumber a (LentSamples a xs ys × LentTable a t) (StoredSamples a xs ys × StoredCells a t) rest k
+        → Reached (Passed a xs ys × PassedTable a t) 5 rest k
+    table-past h =
+        reached-as (
+          λ p. (record { sized = p .0; tolerances = p .1; lent = p .2 .0; held = p .3; stored = p .4 .0 }, record { room = p .2 .1; cells = p .4 .1 }),
+          λ q. (q .0 .sized, q .0 .tolerances, (q .0 .lent, q .1 .room), q .0 .held, (q .0 .stored, q .1 .cells)),
+        )
+        (past-5 a (lent-table a xs ys t) (stored-decided a xs ys t) h)
+
+    pub sample-past : {rest : ℕ → Type 0} {k : ℕ} (x y : ℤ)
+        → TraceNumber a (LentSamples a xs ys × LentTable a t) (StoredSamples a xs ys × StoredCells a t) (First 6 (Coord x × Coord y → ⊥) rest) k
+        → Reached (Passed a xs ys × PassedTable a t × Coord x × Coord y) 6 rest k
+    sample-past x y h =
+        reached-unless 6 (omega arith) _ (sample-decided x y) (λ p. (p .0 .0, p .0 .1, p .1 .0, p .1 .1), λ q. ((q .0, q .1), (q .2, q .3))) (table-past h)
+
+    pub add-past : {k : ℕ} (x y : ℤ) → AddNumber a xs ys t x y k → Reached (Passed a xs ys × PassedTable a t × Coord x × Coord y × (a .held < a .capacity)) 7 Good k
+    add-past x y h =
+        reached-more 7 (omega arith)
+        (λ p. (p .0 .0, p .0 .1, p .0 .2, p .0 .3, lt-of-le-of-ne (p .0 .0 .held) (p .1)), λ q. ((q .0, q .1, q .2, q .3), λ e. omega (arith, q .4)))
+        (sample-past x y h)
+
+    pub correct-past : {k : ℕ} (v : ℕ) (x y : ℤ) → CorrectNumber a xs ys t v x y k → Reached (Passed a xs ys × PassedTable a t × Coord x × Coord y × (v < a .held)) 8 Good k
+    correct-past v x y h =
+        reached-more 8 (omega arith)
+        (λ p. (p .0 .0, p .0 .1, p .0 .2, p .0 .3, lt-of-not-le (p .1)), λ q. ((q .0, q .1, q .2, q .3), not-le-of-lt (q .4)))
+        (sample-past x y h)
+
+    pub ranks-past : {k : ℕ} (ranks : List ℕ) → ReadNumber a xs ys t ranks k → Reached (Passed a xs ys × PassedTable a t × (a .held ≤ length ranks)) 5 (First 9 (a .held < 2) Good) k
+    ranks-past ranks h =
+        reached-as (
+          λ p. (record { sized = p .0; tolerances = p .1; lent = p .2 .0; held = p .3; stored = p .4 .0 }, record { room = p .2 .1; cells = p .4 .1 }, p .2 .2),
+          λ q. (q .0 .sized, q .0 .tolerances, (q .0 .lent, q .1 .room, q .2), q .0 .held, (q .0 .stored, q .1 .cells)),
+        )
+        (past-5 a (lent-ranks a xs ys t ranks) (stored-decided a xs ys t) h)
+
+    pub read-past : {k : ℕ} (ranks : List ℕ) → ReadNumber a xs ys t ranks k → Reached (Passed a xs ys × PassedTable a t × (a .held ≤ length ranks) × (2 ≤ a .held)) 9 Good k
+    read-past ranks h =
+        reached-more 9 (omega arith) (λ p. (p .0 .0, p .0 .1, p .0 .2, omega (arith, lt-of-not-le (p .1))), λ q. ((q .0, q .1, q .2), λ l. omega (arith, q .3))) (ranks-past ranks h)
+
+-- ---- what number 0 gives
+pub start-passed : (m N : ℕ) (tols : List ℕ) → StartNumber m N tols 0 → Sized m N × Tolerances m tols
+start-passed m N tols h = past-2 m N tols {rest = Good} h .passed (inl refl)
+
+pub add-passed : (a : Trace) (xs ys : List ℤ) (t : List ℕ) (x y : ℤ) → AddNumber a xs ys t x y 0
+    → Passed a xs ys × PassedTable a t × Coord x × Coord y × (a .held < a .capacity)
+add-passed a xs ys t x y h = add-past a xs ys t x y h .passed (inl refl)
+
+pub correct-passed : (a : Trace) (xs ys : List ℤ) (t : List ℕ) (v : ℕ) (x y : ℤ) → CorrectNumber a xs ys t v x y 0
+    → Passed a xs ys × PassedTable a t × Coord x × Coord y × (v < a .held)
+correct-passed a xs ys t v x y h = correct-past a xs ys t v x y h .passed (inl refl)
+
+pub ask-passed : (a : Trace) (xs ys : List ℤ) (k i j : ℕ) → AskNumber a xs ys k i j 0 → Passed a xs ys × (i < j) × (j < a .held) × (1 ≤ k) × (k ≤ a .levels)
+ask-passed a xs ys k i j h = ask-past a xs ys k i j h .passed (inl refl)
+
+pub read-passed : (a : Trace) (xs ys : List ℤ) (t ranks : List ℕ) → ReadNumber a xs ys t ranks 0
+    → Passed a xs ys × PassedTable a t × (a .held ≤ length ranks) × (2 ≤ a .held)
+read-passed a xs ys t ranks h = read-past a xs ys t ranks h .passed (inl refl)
+
+-- the tolerances rise, as the walk asks
+pub rising : {m : ℕ} {tols : List ℕ} → Tolerances m tols → Rising tols m
+rising T = record { rise = T .rise; small = λ l h. omega (arith, T .high l h) }
+
+-- the samples held are in range
+pub in-range : {a : Trace} {xs ys : List ℤ} → Passed a xs ys → InRange xs (a .held) × InRange ys (a .held)
+in-range P = (
+  record { held = le-trans (P .held) (P .lent .0); each = λ q l. P .stored q l .0 },
+  record { held = le-trans (P .held) (P .lent .1); each = λ q l. P .stored q l .1 },
+)
+
+-- a coordinate in range, put among others
+put-range : (xs : List ℤ) (v n : ℕ) (x : ℤ) → v < n → n ≤ length xs → Coord x → ((q : ℕ) → q < n → (q ≡ v → ⊥) → Coord (getD xs q (pos 0))) → InRange (set xs v x) n
+put-range xs v n x o h c others = record { held = rw (length-set xs v x) h; each = each }
+  where
+    each : (q : ℕ) → q < n → Coord (getD (set xs v x) q (pos 0))
+    each q l = elim (ℕ-discrete q v) [
+      | yes e ↦ rw (e, getD-set-same xs v x (pos 0) (omega arith)) c
+      | no d ↦ rw (getD-set-other xs v q x (pos 0) d) (others q l d)
+    ]
+
+-- what a change of a sample asks
+pub add-ready : (a : Trace) (xs ys : List ℤ) (t : List ℕ) (x y : ℤ) → AddNumber a xs ys t x y 0 → Ready a xs ys t (a .held) (a .held + 1) x y
+add-ready a xs ys t x y h =
+    let p = add-passed a xs ys t x y h in
+    let P = p .0 in
+    record {
+      sizes = (P .sized .0, P .sized .1, P .sized .3, omega arith, omega (arith, p .4));
+      rising = rising (P .tolerances);
+      across = put-range xs (a .held) (a .held + 1) x (omega arith) (omega (arith, p .4, P .lent .0)) (p .2) (λ q l d. P .stored q (lt-of-le-of-ne (omega arith) d) .0);
+      upward = put-range ys (a .held) (a .held + 1) y (omega arith) (omega (arith, p .4, P .lent .1)) (p .3) (λ q l d. P .stored q (lt-of-le-of-ne (omega arith) d) .1);
+      room = p .1 .room;
+      steps = added-steps (a .capacity) (a .levels) (a .held) t (p .1 .cells);
+    }
+
+pub correct-ready : (a : Trace) (xs ys : List ℤ) (t : List ℕ) (v : ℕ) (x y : ℤ) → CorrectNumber a xs ys t v x y 0 → Ready a xs ys t v (a .held) x y
+correct-ready a xs ys t v x y h =
+    let p = correct-passed a xs ys t v x y h in
+    let P = p .0 in
+    let R = in-range P in
+    record {
+      sizes = (P .sized .0, P .sized .1, P .sized .3, p .4, P .held);
+      rising = rising (P .tolerances);
+      across = put-range xs v (a .held) x (p .4) (R .0 .held) (p .2) (λ q l d. P .stored q l .0);
+      upward = put-range ys v (a .held) y (p .4) (R .1 .held) (p .3) (λ q l d. P .stored q l .1);
+      room = p .1 .room;
+      steps = corrected-steps (a .capacity) (a .levels) (a .held) t (p .1 .cells) v;
+    }

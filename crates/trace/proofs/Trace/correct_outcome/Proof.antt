@@ -1,0 +1,41 @@
+-- `trace::Trace::correct_outcome` meets its contract. Assumes nothing.
+use mathlib.Core.Path.{refl}
+use Rattle.algebra.proofs.Signed.{handed₂}
+use Rattle.trace.specs.Rows.{sampleOk, correctOutcome}
+use borrow.Author.Needs.{needs}
+use Rattle.trace.proofs.Trace.correct_outcome.Statement.{statement}
+use Rattle.trace.proofs.Trace.correct_outcome.Tie as tie
+
+trace-outcome-requires : tie.Need-trace-outcome-requires
+trace-outcome-requires c κs = search needs
+
+sample-ok-requires : tie.Need-sample-ok-requires
+sample-ok-requires c κs = search needs
+
+need-requires : tie.Need-need-requires
+need-requires c κs = search needs
+
+need-requires-2 : tie.Need-need-requires-2
+need-requires-2 c κs = search needs
+
+and-then-requires : tie.Need-and-then-requires
+and-then-requires c κs = search needs
+
+returns : tie.Need-returns
+unfolding correctOutcome
+returns c =
+    let d = c .before .before .before .before in
+    let s = d .before .before .before in
+    let h = handed₂ sampleOk (s .args .x) (s .args .y) (s .fits .x) (s .fits .y) (d .sample-ok .ensures) in
+    rw (c .and-then .ensures, c .before .need2 .ensures, c .before .before .need .ensures, h, d .before .trace-outcome .ensures) refl
+
+pub correct-outcome-spec : {M : Type 1} → statement M
+correct-outcome-spec =
+    tie.close
+    (tie.spec
+    trace-outcome-requires
+    sample-ok-requires
+    need-requires
+    need-requires-2
+    and-then-requires
+    returns)

@@ -1,0 +1,139 @@
+-- One theorem for each call: any two results that its promise allows for one entry, answers and buffers after the call, are equal. Assumes nothing.
+use mathlib.Core.Path.{_≡_, refl, sym, ap, _∙_}
+use mathlib.Core.List.{List}
+use Prim.Native.Nat.{ℕ, _+_}
+use native.Mathlib.Omega.{arith}
+use lib.IntN.{ℤ}
+use lib.ListN.{set}
+use Rattle.refusal.specs.declared.Refusal.{Refusal}
+use Rattle.refusal.specs.declared.Outcome.{Outcome}
+use Rattle.refusal.specs.declared.Outcome.the-variants.{Done, Refused}
+use Rattle.refusal.specs.Number.{code}
+use Rattle.refusal.proofs.Rows.{numbered, number-one, code-one}
+use Rattle.costs.specs.Costs.{Permit}
+use Rattle.trace.specs.declared.Trace.{Trace}
+use Rattle.trace.specs.declared.Started.{Started}
+use Rattle.trace.specs.declared.Changed.{Changed}
+use Rattle.trace.specs.declared.Asked.{Asked}
+use Rattle.trace.specs.declared.Asked.the-variants as Asked
+use Rattle.trace.specs.declared.Levels.{Levels}
+use Rattle.trace.specs.Numbers.{StartNumber, AddNumber, CorrectNumber, ReadNumber}
+use Rattle.trace.specs.Calls.{StartGives, Buffers, buffers, Put, ChangeGives, AddGives, CorrectGives, asked, Says, AskGives, ReadGives}
+use Rattle.trace.proofs.Numbers.{start-number-one, add-number-one, correct-number-one, ask-number-one, read-number-one}
+use Rattle.trace.proofs.Passed.{read-passed}
+use Rattle.costs.proofs.Meaning.{cells-one}
+use Rattle.readout.proofs.Meaning.{ranks-one}
+use Rattle.trace.proofs.Calls.{Able, add-able, correct-able}
+
+-- two outcomes with a number that one row leaves no choice of are equal: both Done, or both one refusal
+by-number : {A : Type 0} (Number : ℕ → Type 0) → ((j k : ℕ) → Number j → Number k → j ≡ k) → (o p : Outcome) → Number (code o) → Number (code p)
+    → (o ≡ p → o ≡ Done → p ≡ Done → A) → (o ≡ p → (why : Refusal) → o ≡ Refused why → p ≡ Refused why → A) → A
+by-number {A} Number one o p h g done refused = go o refl
+  where
+    e : o ≡ p
+    e = code-one o p (one (code o) (code p) h g)
+
+    go : (t : Outcome) → o ≡ t → A
+    go Done d = done e d (sym e ∙ d)
+    go (Refused w) d = refused e w d (sym e ∙ d)
+
+-- ---- start
+pub start-one : (m N : ℕ) (tols : List ℕ) (r q : Started) → StartGives m N tols r → StartGives m N tols q → r ≡ q
+start-one m N tols r q A B =
+    by-number (StartNumber m N tols) (start-number-one m N tols) (r .outcome) (q .outcome) (A .number) (B .number)
+    (λ o h g. same o (A .done h ∙ sym (B .done g)))
+    (λ o w h g. same o (A .refused w h ∙ sym (B .refused w g)))
+  where
+    same : r .outcome ≡ q .outcome → r .trace ≡ q .trace → r ≡ q
+    same e f = let h : _≡_ {A = Started} (record { outcome = r .outcome; trace = r .trace }) (record { outcome = q .outcome; trace = q .trace }) = cc in h
+
+-- ---- add and correct
+-- answers and buffers are equal where their parts are
+changed-same : {r q : Changed} → r .outcome ≡ q .outcome → r .trace ≡ q .trace → r .cells ≡ q .cells → r ≡ q
+changed-same {r} {q} e f g =
+    let h : _≡_ {A = Changed} (record { outcome = r .outcome; trace = r .trace; cells = r .cells }) (record { outcome = q .outcome; trace = q .trace; cells = q .cells }) = cc in
+    h
+
+buffers-same : {e f : Buffers} → e .across ≡ f .across → e .upward ≡ f .upward → e .table ≡ f .table → e ≡ f
+buffers-same {e} {f} u v w = let h : buffers (e .across) (e .upward) (e .table) ≡ buffers (f .across) (f .upward) (f .table) = cc in h
+
+module _ (Number : ℕ → Type 0) (one : (j k : ℕ) → Number j → Number k → j ≡ k) (a : Trace) (b : Buffers) (v n : ℕ) (x y : ℤ) (able : Number 0 → Able a b v n x y) where
+  -- the tables that one change of a sample may leave
+  table-one : {r q : Changed} {e f : Buffers} → Able a b v n x y → Put a b v n x y r e → Put a b v n x y q f → e .table ≡ f .table
+  table-one {e = e} {f = f} A P Q =
+      let R = A .ready in
+      let z = R .sizes in
+      cells-one (a .capacity) (set (b .across) v x) (set (b .upward) v y) (a .tolerances) (a .levels) v n (b .table) (z .1) (omega arith) (z .4) (R .across) (R .upward) (A .fine) (z .3)
+      (e .table) (f .table) (rw (P .across, P .upward) at (P .cells)) (rw (Q .across, Q .upward) at (Q .cells))
+
+  changed-one : (r q : Changed) (e f : Buffers) → ChangeGives Number a b v n x y r e → ChangeGives Number a b v n x y q f → (r ≡ q) × (e ≡ f)
+  changed-one r q e f A B = by-number Number one (r .outcome) (q .outcome) (A .number) (B .number) done refused
+    where
+      done : r .outcome ≡ q .outcome → r .outcome ≡ Done → q .outcome ≡ Done → (r ≡ q) × (e ≡ f)
+      done o h g =
+          let P = A .done h in
+          let Q = B .done g in (
+            changed-same o (P .trace ∙ sym (Q .trace)) (P .count ∙ sym (Q .count)),
+            buffers-same (P .across ∙ sym (Q .across)) (P .upward ∙ sym (Q .upward)) (table-one (able (rw h at (A .number))) P Q),
+          )
+
+      refused : r .outcome ≡ q .outcome → (why : Refusal) → r .outcome ≡ Refused why → q .outcome ≡ Refused why → (r ≡ q) × (e ≡ f)
+      refused o w h g =
+          let P = A .refused w h in
+          let Q = B .refused w g in
+          (changed-same o (P .trace ∙ sym (Q .trace)) (P .count ∙ sym (Q .count)), P .lent ∙ sym (Q .lent))
+
+pub add-one : (a : Trace) (b : Buffers) (x y : ℤ) (r q : Changed) (e f : Buffers) → AddGives a b x y r e → AddGives a b x y q f → (r ≡ q) × (e ≡ f)
+add-one a b x y r q e f A B =
+    changed-one (AddNumber a (b .across) (b .upward) (b .table) x y) (add-number-one a (b .across) (b .upward) (b .table) x y) a b (a .held) (a .held + 1) x y (add-able a b x y)
+    r q e f A B
+
+pub correct-one : (a : Trace) (b : Buffers) (v : ℕ) (x y : ℤ) (r q : Changed) (e f : Buffers) → CorrectGives a b v x y r e → CorrectGives a b v x y q f → (r ≡ q) × (e ≡ f)
+correct-one a b v x y r q e f A B =
+    changed-one (CorrectNumber a (b .across) (b .upward) (b .table) v x y) (correct-number-one a (b .across) (b .upward) (b .table) v x y) a b v (a .held) x y (correct-able a b v x y)
+    r q e f A B
+
+-- ---- ask
+-- two answers about one statement, with one number
+says-one : (P : Type 0) (r q : Asked) → asked r ≡ asked q → Says P r → Says P q → r ≡ q
+says-one P Asked.Yes Asked.Yes e A B = refl
+says-one P Asked.Yes Asked.No e A B = absurd (B A)
+says-one P Asked.Yes (Asked.Refused w) e A B = absurd (numbered w (sym e))
+says-one P Asked.No Asked.Yes e A B = absurd (A B)
+says-one P Asked.No Asked.No e A B = refl
+says-one P Asked.No (Asked.Refused w) e A B = absurd (numbered w (sym e))
+says-one P (Asked.Refused w) Asked.Yes e A B = absurd (numbered w e)
+says-one P (Asked.Refused w) Asked.No e A B = absurd (numbered w e)
+says-one P (Asked.Refused w) (Asked.Refused x) e A B = ap Asked.Refused (number-one w x e)
+
+pub ask-one : (a : Trace) (xs ys : List ℤ) (k i j : ℕ) (r q : Asked) (u u′ w w′ : List ℤ) → AskGives a xs ys k i j r u w → AskGives a xs ys k i j q u′ w′ → (r ≡ q) × (u ≡ u′) × (w ≡ w′)
+ask-one a xs ys k i j r q u u′ w w′ A B = (
+  says-one (Permit xs ys (a .tolerances) k i j) r q (ask-number-one a xs ys k i j (asked r) (asked q) (A .number) (B .number)) (A .says) (B .says),
+  A .lent .0 ∙ sym (B .lent .0),
+  A .lent .1 ∙ sym (B .lent .1),
+)
+
+-- ---- read
+levels-same : {r q : Levels} → r .outcome ≡ q .outcome → r .segments ≡ q .segments → r .total ≡ q .total → r ≡ q
+levels-same {r} {q} e f g =
+    let h : _≡_ {A = Levels} (record { outcome = r .outcome; segments = r .segments; total = r .total }) (record { outcome = q .outcome; segments = q .segments; total = q .total }) = cc in
+    h
+
+pub read-one : (a : Trace) (b : Buffers) (ranks : List ℕ) (r q : Levels) (e f : Buffers) (u w : List ℕ) → ReadGives a b ranks r e u → ReadGives a b ranks q f w → (r ≡ q) × (e ≡ f) × (u ≡ w)
+read-one a b ranks r q e f u w A B =
+    by-number (ReadNumber a (b .across) (b .upward) (b .table) ranks) (read-number-one a (b .across) (b .upward) (b .table) ranks) (r .outcome) (q .outcome) (A .number) (B .number) done refused
+  where
+    done : r .outcome ≡ q .outcome → r .outcome ≡ Done → q .outcome ≡ Done → (r ≡ q) × (e ≡ f) × (u ≡ w)
+    done o h g =
+        let p = read-passed a (b .across) (b .upward) (b .table) ranks (rw h at (A .number)) in
+        let z = p .0 .sized in
+        let n = p .0 .held in
+        let s = ranks-one (b .table) (a .capacity) (a .levels) (a .held) (z .0) (z .1) (omega arith) (omega arith) (p .1 .cells) ranks u w (r .segments) (q .segments) (r .total) (q .total)
+        (A .done h) (B .done g) in
+        (levels-same o (s .1) (s .2), A .lent ∙ sym (B .lent), s .0)
+
+    refused : r .outcome ≡ q .outcome → (why : Refusal) → r .outcome ≡ Refused why → q .outcome ≡ Refused why → (r ≡ q) × (e ≡ f) × (u ≡ w)
+    refused o v h g =
+        let P = A .refused v h in
+        let Q = B .refused v g in
+        (levels-same o (P .segments ∙ sym (Q .segments)) (P .total ∙ sym (Q .total)), A .lent ∙ sym (B .lent), P .kept ∙ sym (Q .kept))

@@ -1,0 +1,107 @@
+-- What each call gives and leaves: its number, its answer, and every lent buffer after the call. Assumes nothing.
+use mathlib.Core.Path.{_≡_}
+use mathlib.Core.List.{List, _++_}
+use Prim.Native.Nat.{ℕ, _+_, _-_}
+use lib.IntN.{ℤ}
+use lib.ListN.{length, set, take, replicate}
+use Rattle.refusal.specs.declared.Refusal.{Refusal}
+use Rattle.refusal.specs.declared.Outcome.the-variants.{Done, Refused}
+use Rattle.refusal.specs.Number.{number, code}
+use Rattle.costs.specs.Costs.{Permit, CellsWritten, named}
+use Rattle.readout.specs.Read.{RanksRead}
+use Rattle.trace.specs.declared.Trace.{Trace}
+use Rattle.trace.specs.declared.Started.{Started}
+use Rattle.trace.specs.declared.Changed.{Changed}
+use Rattle.trace.specs.declared.Asked.{Asked}
+use Rattle.trace.specs.declared.Asked.the-variants as Asked
+use Rattle.trace.specs.declared.Levels.{Levels}
+use Rattle.trace.specs.Numbers.{StartNumber, AddNumber, CorrectNumber, AskNumber, ReadNumber}
+
+-- ---- start
+-- the first m tolerances, then zeros up to 16
+abbrev pub kept : ℕ → List ℕ → List ℕ
+kept m tols = take m tols ++ replicate (16 - m) 0
+
+abbrev pub emptyTrace : ℕ → ℕ → List ℕ → Trace
+emptyTrace m N tols = record { levels = m; capacity = N; held = 0; tolerances = kept m tols }
+
+abbrev pub noTrace : Trace
+noTrace = record { levels = 0; capacity = 0; held = 0; tolerances = replicate 16 0 }
+
+pub record StartGives (m N : ℕ) (tols : List ℕ) (r : Started) : Type 0 where
+  pub number : StartNumber m N tols (code (r .outcome))
+  pub done : r .outcome ≡ Done → r .trace ≡ emptyTrace m N tols
+  pub refused : (why : Refusal) → r .outcome ≡ Refused why → r .trace ≡ noTrace
+
+-- ---- add and correct
+-- the buffers that are lent
+pub record Buffers : Type 0 where
+  pub across : List ℤ
+  pub upward : List ℤ
+  pub table : List ℕ
+
+abbrev pub buffers : List ℤ → List ℤ → List ℕ → Buffers
+buffers xs ys t = record { across = xs; upward = ys; table = t }
+
+-- the trace with n samples
+abbrev pub holding : Trace → ℕ → Trace
+holding a n = record { levels = a .levels; capacity = a .capacity; held = n; tolerances = a .tolerances }
+
+-- of n samples after the call, sample v is now (x, y), and exactly the cells of stretches with it are written, and counted
+pub record Put (a : Trace) (b : Buffers) (v n : ℕ) (x y : ℤ) (r : Changed) (e : Buffers) : Type 0 where
+  pub trace : r .trace ≡ holding a n
+  pub across : e .across ≡ set (b .across) v x
+  pub upward : e .upward ≡ set (b .upward) v y
+  pub cells : CellsWritten (a .capacity) (Permit (e .across) (e .upward) (a .tolerances)) (a .levels) v n (b .table) (e .table)
+  pub count : r .cells ≡ named (a .levels) v n
+
+-- nothing is written, and the trace is the one given
+pub record NotPut (a : Trace) (b : Buffers) (r : Changed) (e : Buffers) : Type 0 where
+  pub trace : r .trace ≡ a
+  pub lent : e ≡ b
+  pub count : r .cells ≡ 0
+
+-- the promise of both calls, by the statement of the call's number
+pub record ChangeGives (Number : ℕ → Type 0) (a : Trace) (b : Buffers) (v n : ℕ) (x y : ℤ) (r : Changed) (e : Buffers) : Type 0 where
+  pub number : Number (code (r .outcome))
+  pub done : r .outcome ≡ Done → Put a b v n x y r e
+  pub refused : (why : Refusal) → r .outcome ≡ Refused why → NotPut a b r e
+
+-- add puts a sample at place n, and then holds one more
+abbrev pub AddGives : Trace → Buffers → ℤ → ℤ → Changed → Buffers → Type 0
+AddGives a b x y = ChangeGives (AddNumber a (b .across) (b .upward) (b .table) x y) a b (a .held) (a .held + 1) x y
+
+-- correct gives sample v new coordinates, and holds as many
+abbrev pub CorrectGives : Trace → Buffers → ℕ → ℤ → ℤ → Changed → Buffers → Type 0
+CorrectGives a b v x y = ChangeGives (CorrectNumber a (b .across) (b .upward) (b .table) v x y) a b v (a .held) x y
+
+-- ---- ask
+-- the paper's number of an answer, 0 for a yes and for a no
+abbrev pub asked : Asked → ℕ
+asked Asked.Yes = 0
+asked Asked.No = 0
+asked (Asked.Refused why) = number why
+
+-- what an answer says of a statement: yes that it holds, no that it does not, a refusal neither
+abbrev pub Says : Type 0 → Asked → Type 0
+Says P Asked.Yes = P
+Says P Asked.No = P → ⊥
+Says P (Asked.Refused why) = Unit {0}
+
+pub record AskGives (a : Trace) (xs ys : List ℤ) (k i j : ℕ) (r : Asked) (xs′ ys′ : List ℤ) : Type 0 where
+  pub number : AskNumber a xs ys k i j (asked r)
+  pub says : Says (Permit xs ys (a .tolerances) k i j) r
+  pub lent : (xs′ ≡ xs) × (ys′ ≡ ys)
+
+-- ---- read
+-- no ranks are written, and every count is zero
+pub record NotRead (ranks : List ℕ) (r : Levels) (ranks′ : List ℕ) : Type 0 where
+  pub kept : ranks′ ≡ ranks
+  pub segments : r .segments ≡ replicate 16 0
+  pub total : r .total ≡ 0
+
+pub record ReadGives (a : Trace) (b : Buffers) (ranks : List ℕ) (r : Levels) (e : Buffers) (ranks′ : List ℕ) : Type 0 where
+  pub number : ReadNumber a (b .across) (b .upward) (b .table) ranks (code (r .outcome))
+  pub done : r .outcome ≡ Done → RanksRead (b .table) (a .capacity) (a .levels) (a .held) ranks ranks′ (r .segments) (r .total)
+  pub refused : (why : Refusal) → r .outcome ≡ Refused why → NotRead ranks r ranks′
+  pub lent : e ≡ b

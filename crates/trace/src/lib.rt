@@ -1,0 +1,429 @@
+// A trace's setup, and the public calls on a trace: each checks its row of refusals, then acts.
+ghost use mathlib.Core.Path.{_≡_};
+ghost use Prim.Native.Nat.{_*_, _≤_};
+ghost use lib.ListN.{length};
+ghost use Rattle.trace.specs.Calls.{buffers, kept, StartGives, AddGives, CorrectGives, AskGives, ReadGives};
+ghost use Rattle.trace.specs.Rows.{setupOk, tolerancesOk, setupOutcome, lentOk, lentOutcome, samplesOk, sampleOk, stretchOk, traceOutcome, addOutcome, correctOutcome, askOutcome, readOutcome, Ready, Changes};
+use geometry::coordinate_ok;
+use geometry::coordinates_ok;
+use refusal::Outcome;
+use refusal::Refusal;
+use refusal::and_then;
+use refusal::need;
+
+// A trace's setup: levels m, capacity N, samples held n, and the tolerances of levels 1 to m; those past m are never read.
+pub struct Trace {
+    pub levels: usize,
+    pub capacity: usize,
+    pub held: usize,
+    pub tolerances: [u32; 16],
+}
+
+// What start gives: an empty trace; refused, a trace of no levels and no capacity.
+pub struct Started {
+    pub outcome: Outcome,
+    pub trace: Trace,
+}
+
+// What add and correct give: the next trace and the count of cells written; refused, the trace given and 0.
+pub struct Changed {
+    pub outcome: Outcome,
+    pub trace: Trace,
+    pub cells: usize,
+}
+
+// Whether a stretch is permitted.
+pub enum Asked {
+    Yes,
+    No,
+    Refused(Refusal),
+}
+
+// What read gives: the segments of each level, zero past m, and their total; refused, zeros.
+pub struct Levels {
+    pub outcome: Outcome,
+    pub segments: [u16; 16],
+    pub total: u32,
+}
+
+// The ranges.
+impl Trace {
+    pub const LEVELS_LEAST: usize = 1;
+
+    pub const LEVELS_MOST: usize = 16;
+
+    pub const CAPACITY_LEAST: usize = 2;
+
+    pub const CAPACITY_MOST: usize = 256;
+
+    pub const COORDINATE_LEAST: i16 = geometry::COORDINATE_LEAST;
+
+    pub const COORDINATE_MOST: i16 = geometry::COORDINATE_MOST;
+
+    pub const TOLERANCE_LEAST: u32 = 1;
+
+    pub const TOLERANCE_MOST: u32 = 32768;
+}
+
+// Whether levels and capacity are in range.
+fn setup_ok(m: usize, cap: usize) -> bool
+    ensures { λ r. ⌜ r ≡ setupOk m cap ⌝ }
+{
+    if m < Trace::LEVELS_LEAST {
+        return false;
+    }
+    if Trace::LEVELS_MOST < m {
+        return false;
+    }
+    if cap < Trace::CAPACITY_LEAST {
+        return false;
+    }
+    cap <= Trace::CAPACITY_MOST
+}
+
+// Whether the tolerances of levels 1 to m are in range and rise.
+fn tolerances_ok(m: usize, tolerances: [u32; 16]) -> bool
+    requires { ⌜ m ≤ 16 ⌝ }
+    ensures { λ r. ⌜ r ≡ tolerancesOk m tolerances ⌝ }
+{
+    let mut least = Trace::TOLERANCE_LEAST;
+    let mut l = 0;
+    while l < m {
+        let e = tolerances[l];
+        if e < least {
+            return false;
+        }
+        if Trace::TOLERANCE_MOST < e {
+            return false;
+        }
+        least = e + 1;
+        l += 1;
+    }
+    true
+}
+
+// Refusals 1 and 2: the setup.
+fn setup_outcome(m: usize, cap: usize, tolerances: [u32; 16]) -> Outcome
+    ensures { λ r. ⌜ r ≡ setupOutcome m cap tolerances ⌝ }
+{
+    if !setup_ok(m, cap) {
+        return Outcome::Refused(Refusal::Setup);
+    }
+    if !tolerances_ok(m, tolerances) {
+        return Outcome::Refused(Refusal::Tolerance);
+    }
+    Outcome::Done
+}
+
+// The first m tolerances, and zeros after them.
+fn keep(m: usize, tolerances: [u32; 16]) -> [u32; 16]
+    requires { ⌜ m ≤ 16 ⌝ }
+    ensures { λ r. ⌜ r ≡ kept m tolerances ⌝ }
+{
+    let mut out: [u32; 16] = [0; 16];
+    let mut l = 0;
+    while l < m {
+        out[l] = tolerances[l];
+        l += 1;
+    }
+    out
+}
+
+// Whether the coordinates of a new sample are in range.
+fn sample_ok(x: i16, y: i16) -> bool
+    ensures { λ r. ⌜ r ≡ sampleOk x y ⌝ }
+{
+    coordinate_ok(x) && coordinate_ok(y)
+}
+
+// The checks. Lengths of buffers are those lent.
+impl Trace {
+    // Whether the buffers are long enough for a call that uses so many levels of the table.
+    fn lent_ok(self, levels: usize, xs: usize, ys: usize, cells: usize, bytes: usize) -> bool
+        requires { ⌜ (levels ≤ 16) × (self .capacity ≤ 256) ⌝ }
+        ensures { λ r. ⌜ r ≡ lentOk self levels xs ys cells bytes ⌝ }
+    {
+        let cap = self.capacity;
+        if xs < cap {
+            return false;
+        }
+        if ys < cap {
+            return false;
+        }
+        if cells < levels * (cap * cap) {
+            return false;
+        }
+        self.held <= bytes
+    }
+
+    // Refusals 1 to 4: the setup, what is lent, and how many samples are held.
+    fn lent_outcome(
+        self,
+        levels: usize,
+        xs: usize,
+        ys: usize,
+        cells: usize,
+        bytes: usize,
+    ) -> Outcome
+        requires { ⌜ levels ≤ self .levels ⌝ }
+        ensures { λ r. ⌜ r ≡ lentOutcome self levels xs ys cells bytes ⌝ }
+    {
+        let tolerances = self.tolerances;
+        let o = setup_outcome(self.levels, self.capacity, tolerances);
+        let Outcome::Done = o else {
+            return o;
+        };
+        let lent = self.lent_ok(levels, xs, ys, cells, bytes);
+        let held = self.held <= self.capacity;
+        need(
+            lent,
+            Refusal::Buffer,
+            need(held, Refusal::Held, Outcome::Done),
+        )
+    }
+
+    // Whether the coordinates of the samples held are in range.
+    fn samples_ok(self, xs: &[i16], ys: &[i16]) -> bool
+        requires { ⌜ (self .held ≤ length (now xs)) × (self .held ≤ length (now ys)) ⌝ }
+        ensures { λ r. ⌜ r ≡ samplesOk self (now (xs .entry)) (now (ys .entry)) ⌝ }
+    {
+        if !coordinates_ok(xs, self.held) {
+            return false;
+        }
+        coordinates_ok(ys, self.held)
+    }
+
+    // Whether there is such a stretch, and such a level.
+    fn stretch_ok(self, k: usize, i: usize, j: usize) -> bool
+        ensures { λ r. ⌜ r ≡ stretchOk self k i j ⌝ }
+    {
+        if j <= i {
+            return false;
+        }
+        if self.held <= j {
+            return false;
+        }
+        if k < Trace::LEVELS_LEAST {
+            return false;
+        }
+        k <= self.levels
+    }
+
+    // Refusals 1 to 5 of a call that is lent the table.
+    fn trace_outcome(self, xs: &[i16], ys: &[i16], table: &[u16], bytes: usize) -> Outcome
+        ensures { λ r. ⌜ r ≡ traceOutcome self (now (xs .entry)) (now (ys .entry)) (now (table .entry)) bytes ⌝ }
+    {
+        let o = self.lent_outcome(self.levels, xs.len(), ys.len(), table.len(), bytes);
+        let Outcome::Done = o else {
+            return o;
+        };
+        if !self.samples_ok(xs, ys) {
+            return Outcome::Refused(Refusal::Stored);
+        }
+        if !table::cells_ok(table, self.capacity, self.held, self.levels) {
+            return Outcome::Refused(Refusal::Stored);
+        }
+        Outcome::Done
+    }
+
+    // Refusals 1 to 7.
+    fn add_outcome(self, xs: &[i16], ys: &[i16], table: &[u16], x: i16, y: i16) -> Outcome
+        ensures { λ r. ⌜ r ≡ addOutcome self (now (xs .entry)) (now (ys .entry)) (now (table .entry)) x y ⌝ }
+    {
+        let o = self.trace_outcome(xs, ys, table, self.held);
+        let sample = sample_ok(x, y);
+        let room = self.held < self.capacity;
+        and_then(
+            o,
+            need(
+                sample,
+                Refusal::Coordinate,
+                need(room, Refusal::Full, Outcome::Done),
+            ),
+        )
+    }
+
+    // Refusals 1 to 6 and 8.
+    fn correct_outcome(
+        self,
+        xs: &[i16],
+        ys: &[i16],
+        table: &[u16],
+        v: usize,
+        x: i16,
+        y: i16,
+    ) -> Outcome
+        ensures { λ r. ⌜ r ≡ correctOutcome self (now (xs .entry)) (now (ys .entry)) (now (table .entry)) v x y ⌝ }
+    {
+        let o = self.trace_outcome(xs, ys, table, self.held);
+        let sample = sample_ok(x, y);
+        let there = v < self.held;
+        and_then(
+            o,
+            need(
+                sample,
+                Refusal::Coordinate,
+                need(there, Refusal::Missing, Outcome::Done),
+            ),
+        )
+    }
+
+    // Refusals 1 to 5, without a table, and 8.
+    fn ask_outcome(self, xs: &[i16], ys: &[i16], k: usize, i: usize, j: usize) -> Outcome
+        ensures { λ r. ⌜ r ≡ askOutcome self (now (xs .entry)) (now (ys .entry)) k i j ⌝ }
+    {
+        let o = self.lent_outcome(0, xs.len(), ys.len(), 0, self.held);
+        let Outcome::Done = o else {
+            return o;
+        };
+        let samples = self.samples_ok(xs, ys);
+        let there = self.stretch_ok(k, i, j);
+        need(
+            samples,
+            Refusal::Stored,
+            need(there, Refusal::Missing, Outcome::Done),
+        )
+    }
+
+    // Refusals 1 to 5 and 9.
+    fn read_outcome(self, xs: &[i16], ys: &[i16], table: &[u16], bytes: usize) -> Outcome
+        ensures { λ r. ⌜ r ≡ readOutcome self (now (xs .entry)) (now (ys .entry)) (now (table .entry)) bytes ⌝ }
+    {
+        let o = self.trace_outcome(xs, ys, table, bytes);
+        let enough = 2 <= self.held;
+        and_then(o, need(enough, Refusal::Few, Outcome::Done))
+    }
+}
+
+// The calls.
+impl Trace {
+    // Make sample v (x, y), of n samples then held, and rewrite the cells of the stretches with it.
+    fn put(
+        self,
+        xs: &mut [i16],
+        ys: &mut [i16],
+        table: &mut [u16],
+        v: usize,
+        n: usize,
+        x: i16,
+        y: i16,
+    ) -> Changed
+        requires { ⌜ Ready self (now xs) (now ys) (now table) v n x y ⌝ }
+        ensures { λ r. ⌜ Changes self (now (xs .entry)) (now (ys .entry)) (now (table .entry)) v n x y r (now (xs .exit)) (now (ys .exit)) (now (table .exit)) ⌝ }
+    {
+        xs[v] = x;
+        ys[v] = y;
+        let tolerances = self.tolerances;
+        let cells = costs::rewrite(table, xs, ys, &tolerances, self.capacity, self.levels, v, n);
+        let mut next = self;
+        next.held = n;
+        Changed {
+            outcome: Outcome::Done,
+            trace: next,
+            cells,
+        }
+    }
+
+    // An empty trace.
+    pub fn start(levels: usize, capacity: usize, tolerances: [u32; 16]) -> Started
+        ensures { λ r. ⌜ StartGives levels capacity tolerances r ⌝ }
+    {
+        let o = setup_outcome(levels, capacity, tolerances);
+        let Outcome::Done = o else {
+            return Started {
+                outcome: o,
+                trace: Trace {
+                    levels: 0,
+                    capacity: 0,
+                    held: 0,
+                    tolerances: [0; 16],
+                },
+            };
+        };
+        let tolerances = keep(levels, tolerances);
+        Started {
+            outcome: o,
+            trace: Trace {
+                levels,
+                capacity,
+                held: 0,
+                tolerances,
+            },
+        }
+    }
+
+    // One sample more.
+    pub fn add(self, xs: &mut [i16], ys: &mut [i16], table: &mut [u16], x: i16, y: i16) -> Changed
+        ensures { λ r. ⌜ AddGives self (buffers (now (xs .entry)) (now (ys .entry)) (now (table .entry))) x y r (buffers (now (xs .exit)) (now (ys .exit)) (now (table .exit))) ⌝ }
+    {
+        let o = self.add_outcome(xs, ys, table, x, y);
+        let Outcome::Done = o else {
+            return Changed {
+                outcome: o,
+                trace: self,
+                cells: 0,
+            };
+        };
+        let n = self.held;
+        self.put(xs, ys, table, n, n + 1, x, y)
+    }
+
+    // New coordinates for sample v.
+    pub fn correct(
+        self,
+        xs: &mut [i16],
+        ys: &mut [i16],
+        table: &mut [u16],
+        v: usize,
+        x: i16,
+        y: i16,
+    ) -> Changed
+        ensures { λ r. ⌜ CorrectGives self (buffers (now (xs .entry)) (now (ys .entry)) (now (table .entry))) v x y r (buffers (now (xs .exit)) (now (ys .exit)) (now (table .exit))) ⌝ }
+    {
+        let o = self.correct_outcome(xs, ys, table, v, x, y);
+        let Outcome::Done = o else {
+            return Changed {
+                outcome: o,
+                trace: self,
+                cells: 0,
+            };
+        };
+        self.put(xs, ys, table, v, self.held, x, y)
+    }
+
+    // Whether the stretch from sample i to sample j is permitted at level k.
+    pub fn ask(self, xs: &[i16], ys: &[i16], k: usize, i: usize, j: usize) -> Asked
+        ensures { λ r. ⌜ AskGives self (now (xs .entry)) (now (ys .entry)) k i j r (now (xs .exit)) (now (ys .exit)) ⌝ }
+    {
+        let o = self.ask_outcome(xs, ys, k, i, j);
+        if let Outcome::Refused(why) = o {
+            return Asked::Refused(why);
+        }
+        let tolerances = self.tolerances;
+        if geometry::permitted(xs, ys, i, j, tolerances[k - 1]) {
+            return Asked::Yes;
+        }
+        Asked::No
+    }
+
+    // Write the ranks of the samples held, and count the segments of each level.
+    pub fn read(self, xs: &[i16], ys: &[i16], table: &[u16], ranks: &mut [u8]) -> Levels
+        ensures { λ r. ⌜ ReadGives self (buffers (now (xs .entry)) (now (ys .entry)) (now (table .entry))) (now (ranks .entry)) r (buffers (now (xs .exit)) (now (ys .exit)) (now (table .exit))) (now (ranks .exit)) ⌝ }
+    {
+        let o = self.read_outcome(xs, ys, table, ranks.len());
+        let Outcome::Done = o else {
+            return Levels {
+                outcome: o,
+                segments: [0; 16],
+                total: 0,
+            };
+        };
+        let s = readout::read(table, ranks, self.capacity, self.levels, self.held);
+        let segments = s.per;
+        Levels {
+            outcome: o,
+            segments,
+            total: s.total,
+        }
+    }
+}
