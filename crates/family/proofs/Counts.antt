@@ -66,14 +66,14 @@ pub total-one : (r : ℕ → ℕ) (k i j : ℕ) → Neighbours r (suc k) i j →
 unfolding total
 total-one r k i j h = omega (arith, segments-one r (suc k) i j h)
 
-segments-same : (r s : ℕ → ℕ) (k ℓ i j : ℕ) → ℓ ≤ k → ((x : ℕ) → i < x → x ≤ j → min (r x) k ≡ min (s x) k) → segments r ℓ i j ≡ segments s ℓ i j
+-- only the ranks up to k of the samples past the first count
+pub segments-same : (r s : ℕ → ℕ) (k ℓ i j : ℕ) → ℓ ≤ k → ((x : ℕ) → i < x → x ≤ j → min (r x) k ≡ min (s x) k) → segments r ℓ i j ≡ segments s ℓ i j
 segments-same r s k ℓ i zero h e = omega (arith, segments-nil r ℓ i 0 (omega arith), segments-nil s ℓ i 0 (omega arith))
 segments-same r s k ℓ i (suc j) h e = elim (decLe i j) [
   | yes y ↦ omega (arith, segments-suc r ℓ i j y, segments-suc s ℓ i j y, segments-same r s k ℓ i j h (λ x a b. e x a (omega arith)), one-same r s k ℓ (suc j) h (e (suc j) (omega arith) (omega arith)))
   | no n ↦ omega (arith, segments-nil r ℓ i (suc j) (omega arith), segments-nil s ℓ i (suc j) (omega arith))
 ]
 
--- only the ranks up to k of the samples past the first count
 pub total-same : (r s : ℕ → ℕ) (k i j : ℕ) → ((x : ℕ) → i < x → x ≤ j → min (r x) k ≡ min (s x) k) → total r k i j ≡ total s k i j
 unfolding total
 total-same r s zero i j e = refl

@@ -13,13 +13,13 @@ use Rattle.geometry.specs.Coordinate.{InRange}
 use Rattle.family.specs.Levels as Levels
 use Rattle.table.specs.Table.{cell}
 use Rattle.costs.specs.Costs.{Permit, perm, Named, Rewritten}
-use Rattle.costs.proofs.Meaning.{cells-rewritten, added-costs, corrected-costs}
+use Rattle.costs.proofs.Meaning.{added-costs, corrected-costs}
 use Rattle.trace.specs.declared.Trace.{Trace}
 use Rattle.trace.specs.declared.Changed.{Changed}
 use Rattle.trace.specs.Numbers.{Sized, Tolerances, AddNumber, CorrectNumber}
 use Rattle.trace.specs.Calls.{Buffers, Put, NotPut, buffers, kept}
 use Rattle.trace.proofs.Passed.{Passed, start-passed, add-passed, correct-passed}
-use Rattle.trace.proofs.Calls.{Able, add-able, correct-able}
+use Rattle.trace.proofs.Calls.{Able, add-able, correct-able, put-rewritten}
 use Rattle.history.specs.Run.{State, Call, Answer, Step}
 use Rattle.history.specs.Run.Call.{start}
 use Rattle.history.specs.Run.Step.{starts, adds, corrects, asks, reads}
@@ -99,15 +99,13 @@ put-sound s e v n x y r p A costs P t =
     let b = s .lent in
     let R = A .ready in
     let z = R .sizes in
-    let w = cells-rewritten (a .capacity) (set (b .across) v x) (set (b .upward) v y) (a .tolerances) (a .levels) v n (b .table) (z .1) (omega arith) (z .4)
-    (R .across) (R .upward) (A .fine) (e .lent .table) (rw (P .across, P .upward) at (P .cells)) in
     subst Sound (sym (state-is (t ∙ P .trace) (lent-is (P .across) (P .upward) refl) refl)) (record {
       few = z .1;
       small = z .2;
       held = z .4;
       across = R .across;
       upward = R .upward;
-      costs = costs w;
+      costs = costs (put-rewritten A P);
       setup = inr (p .sized, p .tolerances);
     })
 

@@ -9,7 +9,7 @@ use borrow.Author.Count.{below-more}
 use Rattle.refusal.specs.declared.Refusal.{Refusal}
 use Rattle.refusal.specs.declared.Outcome.{Outcome}
 use Rattle.refusal.specs.declared.Outcome.the-variants.{Done, Refused}
-use Rattle.refusal.specs.Check.{need, andThen, allBelow}
+use Rattle.refusal.specs.Check.{need, unless, andThen, allBelow}
 
 pub and-yes : {a b : Bool} → a ≡ true → b ≡ true → a && b ≡ true
 and-yes p q = simp (p, q)
@@ -97,6 +97,9 @@ all-same (suc n) f g h = rw (all-same n f g (λ k l. h k (omega arith)), h n (om
 pub need-done : (b : Bool) (r : Refusal) (o : Outcome) → need b (Refused r) o ≡ Done → (b ≡ true) × (o ≡ Done)
 need-done true r o h = (refl, h)
 need-done false r o h = let z : _≡_ {A = ℕ} 0 1 = cc in let f : ⊥ = omega arith in absurd f
+
+pub unless-done : (b : Bool) (r : Refusal) → unless b r ≡ Done → b ≡ true
+unless-done b r h = need-done b r Done h .0
 
 -- and in the refusal of a test exactly when that test fails and those before it hold
 pub need-refuses : (b : Bool) (r q : Refusal) (o : Outcome) → need b (Refused r) o ≡ Refused q → ((b ≡ false) × (r ≡ q)) ⊎ ((b ≡ true) × (o ≡ Refused q))

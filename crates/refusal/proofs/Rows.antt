@@ -11,7 +11,7 @@ use Rattle.refusal.specs.declared.Refusal.the-variants.{Setup, Tolerance
 use Rattle.refusal.specs.declared.Outcome.{Outcome}
 use Rattle.refusal.specs.declared.Outcome.the-variants.{Done, Refused}
 use Rattle.refusal.specs.Number.{number, code}
-use Rattle.refusal.specs.Check.{need, andThen, Decides, First}
+use Rattle.refusal.specs.Check.{need, unless, andThen, Decides, First}
 use Rattle.refusal.proofs.Plain.{not-refuted}
 
 -- ---- numbers
@@ -88,24 +88,25 @@ first-passed n f = ⊎-elim (λ a. absurd (n (a .0))) (λ a. a .1) f
 pub first-has : {num k : ℕ} {P R : Type 0} (Q : ℕ → Type 0) → Q num → (R → Q k) → First num P (λ j. R) k → Q k
 first-has Q q more f = ⊎-elim (λ a. subst Q (sym (a .1)) q) (λ a. more (a .1)) f
 
+-- rows of equivalent statements give one number: of two that refuse where P or Q holds, and of two that refuse unless it does
+pub first-same : {num k : ℕ} {P Q R S : Type 0} → P ↔ Q → (R → S) → First num P (λ j. R) k → First num Q (λ j. S) k
+first-same f more h = ⊎-elim (λ a. inl (f .0 (a .0), a .1)) (λ a. inr (λ q. a .0 (f .1 q), more (a .1))) h
+
+pub first-unless : {num k : ℕ} {P Q R S : Type 0} → P ↔ Q → (R → S) → First num (P → ⊥) (λ j. R) k → First num (Q → ⊥) (λ j. S) k
+first-unless f more h = first-same (λ n q. n (f .1 q), λ n p. n (f .0 p)) more h
+
 -- ---- rows one after another: the tests of o show the statements of S, whatever follows them
 pub record Row (o : Outcome) (S : (ℕ → Type 0) → ℕ → Type 0) : Type 1 where
   pub gives : (rest : ℕ → Type 0) (q : Outcome) → (o ≡ Done → rest (code q)) → S rest (code (andThen o q))
 
--- no test at all
-pub no-row : Row Done (λ rest. rest)
-no-row = record { gives = λ rest q h. h refl }
-
--- one test more in front
-pub need-row : {P : Type 0} {S : (ℕ → Type 0) → ℕ → Type 0} (b : Bool) (r : Refusal) (o : Outcome)
-    → (b ≡ true → P → ⊥) → (b ≡ false → P) → Row o S → Row (need b (Refused r) o) (λ rest. First (number r) P (S rest))
-need-row true r o passed failed R = record { gives = λ rest q h. inr (passed refl, R .gives rest q h) }
-need-row false r o passed failed R = record { gives = λ rest q h. inl (failed refl, refl) }
+-- one test, by what it says of P where it passes and where it fails
+pub test-row : {P : Type 0} (b : Bool) (r : Refusal) → (b ≡ true → P → ⊥) → (b ≡ false → P) → Row (unless b r) (λ rest. First (number r) P rest)
+test-row true r passed failed = record { gives = λ rest q h. inr (passed refl, h refl) }
+test-row false r passed failed = record { gives = λ rest q h. inl (failed refl, refl) }
 
 -- one that refuses unless P holds
-pub unless-row : {P : Type 0} {S : (ℕ → Type 0) → ℕ → Type 0} (b : Bool) (r : Refusal) (o : Outcome)
-    → Decides P b → Row o S → Row (need b (Refused r) o) (λ rest. First (number r) (P → ⊥) (S rest))
-unless-row b r o d R = need-row b r o (λ e n. n (d .right e)) (d .wrong) R
+pub unless-row : {P : Type 0} (b : Bool) (r : Refusal) → Decides P b → Row (unless b r) (λ rest. First (number r) (P → ⊥) rest)
+unless-row b r d = test-row b r (λ e n. n (d .right e)) (d .wrong)
 
 -- and then another row, which may use that the first was passed
 pub then-row : {S T : (ℕ → Type 0) → ℕ → Type 0} (o p : Outcome) → Row o S → (o ≡ Done → Row p T) → Row (andThen o p) (λ rest. S (T rest))

@@ -5,12 +5,17 @@ use mathlib.Core.Path.{_≡_}
 use mathlib.Core.Logic.{_⊎_}
 use mathlib.Core.Bool.{Bool, true, false, _&&_}
 use lib.Dec.{leb}
+use Rattle.refusal.specs.declared.Refusal.{Refusal}
 use Rattle.refusal.specs.declared.Outcome.{Outcome}
 use Rattle.refusal.specs.declared.Outcome.the-variants.{Done, Refused}
 
 abbrev pub need : {A : Type 0} → Bool → A → A → A
 need true stop rest = rest
 need false stop rest = stop
+
+-- one test alone
+abbrev pub unless : Bool → Refusal → Outcome
+unless ok why = need ok (Refused why) Done
 
 -- a first outcome, and where it is no refusal the next
 abbrev pub andThen : Outcome → Outcome → Outcome

@@ -1,8 +1,7 @@
 // Why a call was refused, and the paper's number of each answer.
 ghost use mathlib.Core.Path.{_≡_};
-ghost use Rattle.refusal.specs.declared.Outcome.the-variants.{Refused};
 ghost use Rattle.refusal.specs.Number.{code};
-ghost use Rattle.refusal.specs.Check.{need as needOf, andThen};
+ghost use Rattle.refusal.specs.Check.{unless as unlessOf, andThen};
 
 // In the order of the paper's numbers 1 to 11.
 pub enum Refusal {
@@ -46,14 +45,18 @@ pub fn number(o: Outcome) -> u8
     }
 }
 
-// One test of a row: where it holds the rest of the row decides, else this refusal is given.
-pub fn need(ok: bool, why: Refusal, rest: Outcome) -> Outcome
-    ensures { λ r. ⌜ r ≡ needOf ok (Refused why) rest ⌝ }
+// One test of a row: refused unless it holds.
+pub fn unless(ok: bool, why: Refusal) -> Outcome
+    ensures { λ r. ⌜ r ≡ unlessOf ok why ⌝ }
 {
-    if ok { rest } else { Outcome::Refused(why) }
+    if ok {
+        Outcome::Done
+    } else {
+        Outcome::Refused(why)
+    }
 }
 
-// A row after another: the first refusal of the two.
+// A test or a row after another: the first refusal of the two.
 pub fn and_then(first: Outcome, rest: Outcome) -> Outcome
     ensures { λ r. ⌜ r ≡ andThen first rest ⌝ }
 {

@@ -12,14 +12,15 @@ use Rattle.refusal.proofs.Rows.{numbered}
 use Rattle.family.specs.Fine.{Fine}
 use Rattle.family.proofs.Local.{Without}
 use Rattle.table.specs.Table.{cell}
+use Rattle.costs.specs.Costs.{perm, Named, Rewritten}
 use Rattle.costs.proofs.Exit.{earlier}
 use Rattle.trace.specs.declared.Trace.{Trace}
 use Rattle.trace.specs.declared.Changed.{Changed}
 use Rattle.trace.specs.Numbers.{AddNumber, CorrectNumber}
-use Rattle.trace.specs.Calls.{Buffers, ChangeGives}
+use Rattle.trace.specs.Calls.{Buffers, Put, ChangeGives}
 use Rattle.trace.specs.Rows.{Ready, Changes}
 use Rattle.trace.proofs.Passed.{add-passed, correct-passed, add-ready, correct-ready}
-use Rattle.costs.proofs.Meaning.{rewritten-cells}
+use Rattle.costs.proofs.Meaning.{rewritten-cells, cells-rewritten}
 
 -- no call is both carried out and refused
 pub done-refused : {A : Type 0} {o : Outcome} {why : Refusal} → o ≡ Done → o ≡ Refused why → A
@@ -64,3 +65,12 @@ module _ {Number : ℕ → Type 0} {a : Trace} {b : Buffers} {v n : ℕ} {x y : 
         done = λ d. record { trace = C .trace; across = C .across; upward = C .upward; cells = rw (C .across, C .upward) w; count = C .count };
         refused = λ w g. done-refused (C .outcome) g;
       }
+
+-- and back: what a change of sample v leaves in the table is what the walk leaves
+pub put-rewritten : {a : Trace} {b e : Buffers} {v n : ℕ} {x y : ℤ} {r : Changed} → Able a b v n x y → Put a b v n x y r e
+    → Rewritten (a .capacity) (perm (set (b .across) v x) (set (b .upward) v y) (a .tolerances)) (Named (a .levels) v n) (b .table) (e .table)
+put-rewritten {a} {b} {e} {v} {n} {x} {y} A P =
+    let R = A .ready in
+    let z = R .sizes in
+    cells-rewritten (a .capacity) (set (b .across) v x) (set (b .upward) v y) (a .tolerances) (a .levels) v n (b .table) (z .1) (omega arith) (z .4) (R .across) (R .upward) (A .fine)
+    (e .table) (rw (P .across, P .upward) at (P .cells))

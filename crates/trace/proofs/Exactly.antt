@@ -12,7 +12,7 @@ use Rattle.refusal.proofs.Rows.{Above, above-none, above-first, reached-none, r
 use Rattle.geometry.specs.Coordinate.{Coord}
 use Rattle.trace.specs.declared.Trace.{Trace}
 use Rattle.trace.specs.Numbers.{Sized, Tolerances, LentSamples, LentTable, StoredSamples, StoredCells, SetupNumber, TraceNumber, StartNumber, AddNumber, CorrectNumber, AskNumber, ReadNumber}
-use Rattle.trace.proofs.Numbers.{lent-samples, lent-table, lent-ranks, samples-decided, stored-decided}
+use Rattle.trace.proofs.Decided.{lent-samples, lent-table, lent-ranks, samples-decided, stored-decided}
 use Rattle.trace.proofs.Passed.{Passed, PassedTable, past-1, past-2, past-3, past-4, samples-past, table-past, sample-past, ranks-past, add-past, correct-past, ask-past, read-past}
 
 -- ---- 1 and 2, of every call

@@ -1,6 +1,8 @@
+pub mod Decided
 pub mod Checks
 pub mod Numbers
 pub mod Passed
 pub mod Exactly
 pub mod Calls
 pub mod Unique
+pub mod Unread

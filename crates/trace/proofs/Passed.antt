@@ -19,7 +19,7 @@ use Rattle.costs.proofs.Exit.{added-steps, corrected-steps}
 use Rattle.trace.specs.declared.Trace.{Trace}
 use Rattle.trace.specs.Numbers.{Sized, Tolerances, LentSamples, LentTable, StoredSamples, StoredCells, Good, SetupNumber, TraceNumber, StartNumber, AddNumber, CorrectNumber, AskNumber, ReadNumber}
 use Rattle.trace.specs.Rows.{Ready}
-use Rattle.trace.proofs.Numbers.{setup-decided, tolerances-decided, lent-samples, lent-table, lent-ranks, samples-decided, stored-decided, sample-decided, missed, there}
+use Rattle.trace.proofs.Decided.{setup-decided, tolerances-decided, lent-samples, lent-table, lent-ranks, samples-decided, stored-decided, sample-decided, missed, there}
 
 -- checks 1 to 5 of the setup and the coordinates
 pub record Passed (a : Trace) (xs ys : List ℤ) : Type 0 where

@@ -21,12 +21,12 @@ use Rattle.trace.specs.Numbers.{StartNumber, AddNumber, CorrectNumber, R
 use Rattle.trace.specs.Calls.{StartGives, Buffers, buffers, Put, ChangeGives, AddGives, CorrectGives, asked, Says, AskGives, ReadGives}
 use Rattle.trace.proofs.Numbers.{start-number-one, add-number-one, correct-number-one, ask-number-one, read-number-one}
 use Rattle.trace.proofs.Passed.{read-passed}
-use Rattle.costs.proofs.Meaning.{cells-one}
+use Rattle.costs.proofs.Exit.{rewritten-unique}
 use Rattle.readout.proofs.Meaning.{ranks-one}
-use Rattle.trace.proofs.Calls.{Able, add-able, correct-able}
+use Rattle.trace.proofs.Calls.{Able, add-able, correct-able, put-rewritten}
 
 -- two outcomes with a number that one row leaves no choice of are equal: both Done, or both one refusal
-by-number : {A : Type 0} (Number : ℕ → Type 0) → ((j k : ℕ) → Number j → Number k → j ≡ k) → (o p : Outcome) → Number (code o) → Number (code p)
+pub by-number : {A : Type 0} (Number : ℕ → Type 0) → ((j k : ℕ) → Number j → Number k → j ≡ k) → (o p : Outcome) → Number (code o) → Number (code p)
     → (o ≡ p → o ≡ Done → p ≡ Done → A) → (o ≡ p → (why : Refusal) → o ≡ Refused why → p ≡ Refused why → A) → A
 by-number {A} Number one o p h g done refused = go o refl
   where
@@ -60,11 +60,7 @@ buffers-same {e} {f} u v w = let h : buffers (e .across) (e .upward) (e .table) 
 module _ (Number : ℕ → Type 0) (one : (j k : ℕ) → Number j → Number k → j ≡ k) (a : Trace) (b : Buffers) (v n : ℕ) (x y : ℤ) (able : Number 0 → Able a b v n x y) where
   -- the tables that one change of a sample may leave
   table-one : {r q : Changed} {e f : Buffers} → Able a b v n x y → Put a b v n x y r e → Put a b v n x y q f → e .table ≡ f .table
-  table-one {e = e} {f = f} A P Q =
-      let R = A .ready in
-      let z = R .sizes in
-      cells-one (a .capacity) (set (b .across) v x) (set (b .upward) v y) (a .tolerances) (a .levels) v n (b .table) (z .1) (omega arith) (z .4) (R .across) (R .upward) (A .fine) (z .3)
-      (e .table) (f .table) (rw (P .across, P .upward) at (P .cells)) (rw (Q .across, Q .upward) at (Q .cells))
+  table-one A P Q = let z = A .ready .sizes in rewritten-unique (a .capacity) _ (a .levels) v n (z .3) (z .4) (b .table) _ _ (put-rewritten A P) (put-rewritten A Q)
 
   changed-one : (r q : Changed) (e f : Buffers) → ChangeGives Number a b v n x y r e → ChangeGives Number a b v n x y q f → (r ≡ q) × (e ≡ f)
   changed-one r q e f A B = by-number Number one (r .outcome) (q .outcome) (A .number) (B .number) done refused
@@ -95,7 +91,7 @@ correct-one a b v x y r q e f A B =
 
 -- ---- ask
 -- two answers about one statement, with one number
-says-one : (P : Type 0) (r q : Asked) → asked r ≡ asked q → Says P r → Says P q → r ≡ q
+pub says-one : (P : Type 0) (r q : Asked) → asked r ≡ asked q → Says P r → Says P q → r ≡ q
 says-one P Asked.Yes Asked.Yes e A B = refl
 says-one P Asked.Yes Asked.No e A B = absurd (B A)
 says-one P Asked.Yes (Asked.Refused w) e A B = absurd (numbered w (sym e))
@@ -114,7 +110,7 @@ ask-one a xs ys k i j r q u u′ w w′ A B = (
 )
 
 -- ---- read
-levels-same : {r q : Levels} → r .outcome ≡ q .outcome → r .segments ≡ q .segments → r .total ≡ q .total → r ≡ q
+pub levels-same : {r q : Levels} → r .outcome ≡ q .outcome → r .segments ≡ q .segments → r .total ≡ q .total → r ≡ q
 levels-same {r} {q} e f g =
     let h : _≡_ {A = Levels} (record { outcome = r .outcome; segments = r .segments; total = r .total }) (record { outcome = q .outcome; segments = q .segments; total = q .total }) = cc in
     h

@@ -9,8 +9,8 @@ use lib.IntN.{ℤ}
 use lib.ListN.{length, getD, set}
 use Rattle.refusal.specs.declared.Refusal.the-variants.{Setup, Tolerance, Buffer, Held, Stored, Coordinate, Full, Missing, Few}
 use Rattle.refusal.specs.declared.Outcome.{Outcome}
-use Rattle.refusal.specs.declared.Outcome.the-variants.{Done, Refused}
-use Rattle.refusal.specs.Check.{need, andThen, allBelow, from-to}
+use Rattle.refusal.specs.declared.Outcome.the-variants.{Done}
+use Rattle.refusal.specs.Check.{unless, andThen, allBelow, from-to}
 use Rattle.geometry.specs.Coordinate.{InRange, coordinateOk, coordinatesOk}
 use Rattle.table.specs.Check.{cellsOk}
 use Rattle.costs.specs.Costs.{perm, Rising, LowSteps, Named, Rewritten, named}
@@ -34,7 +34,7 @@ unfoldable pub tolerancesOk : ℕ → List ℕ → Bool
 tolerancesOk m tols = allBelow m (toleranceOk tols)
 
 unfoldable pub setupOutcome : ℕ → ℕ → List ℕ → Outcome
-setupOutcome m N tols = need (setupOk m N) (Refused Setup) (need (tolerancesOk m tols) (Refused Tolerance) Done)
+setupOutcome m N tols = andThen (unless (setupOk m N) Setup) (unless (tolerancesOk m tols) Tolerance)
 
 -- 3, by lengths: N places across and up, so many levels of cells, and n bytes of ranks. A call that is lent no table uses none of its levels, one that is lent no ranks asks for no more than n
 unfoldable pub lentOk : Trace → ℕ → ℕ → ℕ → ℕ → ℕ → Bool
@@ -43,18 +43,20 @@ lentOk a levels xs ys cells bytes = leb (a .capacity) xs && (leb (a .capacity) y
 -- 1 to 4
 unfoldable pub lentOutcome : Trace → ℕ → ℕ → ℕ → ℕ → ℕ → Outcome
 lentOutcome a levels xs ys cells bytes =
-    andThen (setupOutcome (a .levels) (a .capacity) (a .tolerances))
-    (need (lentOk a levels xs ys cells bytes) (Refused Buffer) (need (leb (a .held) (a .capacity)) (Refused Held) Done))
+    andThen (setupOutcome (a .levels) (a .capacity) (a .tolerances)) (andThen (unless (lentOk a levels xs ys cells bytes) Buffer) (unless (leb (a .held) (a .capacity)) Held))
 
 -- 5 of the coordinates
 unfoldable pub samplesOk : Trace → List ℤ → List ℤ → Bool
 samplesOk a xs ys = coordinatesOk xs (a .held) && coordinatesOk ys (a .held)
 
+-- and of the cells
+unfoldable pub storedOk : Trace → List ℤ → List ℤ → List ℕ → Bool
+storedOk a xs ys t = samplesOk a xs ys && cellsOk t (a .capacity) (a .held) (a .levels)
+
 -- 1 to 5 of a call that is lent the table
 unfoldable pub traceOutcome : Trace → List ℤ → List ℤ → List ℕ → ℕ → Outcome
 traceOutcome a xs ys t bytes =
-    andThen (lentOutcome a (a .levels) (length xs) (length ys) (length t) bytes)
-    (need (samplesOk a xs ys && cellsOk t (a .capacity) (a .held) (a .levels)) (Refused Stored) Done)
+    andThen (lentOutcome a (a .levels) (length xs) (length ys) (length t) bytes) (unless (storedOk a xs ys t) Stored)
 
 -- 6, and 8 of a stretch and a level
 unfoldable pub sampleOk : ℤ → ℤ → Bool
@@ -65,16 +67,16 @@ stretchOk a k i j = ltb i j && (ltb j (a .held) && from-to 1 (a .levels) k)
 
 -- the row of each call
 unfoldable pub addOutcome : Trace → List ℤ → List ℤ → List ℕ → ℤ → ℤ → Outcome
-addOutcome a xs ys t x y = andThen (traceOutcome a xs ys t (a .held)) (need (sampleOk x y) (Refused Coordinate) (need (ltb (a .held) (a .capacity)) (Refused Full) Done))
+addOutcome a xs ys t x y = andThen (traceOutcome a xs ys t (a .held)) (andThen (unless (sampleOk x y) Coordinate) (unless (ltb (a .held) (a .capacity)) Full))
 
 unfoldable pub correctOutcome : Trace → List ℤ → List ℤ → List ℕ → ℕ → ℤ → ℤ → Outcome
-correctOutcome a xs ys t v x y = andThen (traceOutcome a xs ys t (a .held)) (need (sampleOk x y) (Refused Coordinate) (need (ltb v (a .held)) (Refused Missing) Done))
+correctOutcome a xs ys t v x y = andThen (traceOutcome a xs ys t (a .held)) (andThen (unless (sampleOk x y) Coordinate) (unless (ltb v (a .held)) Missing))
 
 unfoldable pub askOutcome : Trace → List ℤ → List ℤ → ℕ → ℕ → ℕ → Outcome
-askOutcome a xs ys k i j = andThen (lentOutcome a 0 (length xs) (length ys) 0 (a .held)) (need (samplesOk a xs ys) (Refused Stored) (need (stretchOk a k i j) (Refused Missing) Done))
+askOutcome a xs ys k i j = andThen (lentOutcome a 0 (length xs) (length ys) 0 (a .held)) (andThen (unless (samplesOk a xs ys) Stored) (unless (stretchOk a k i j) Missing))
 
 unfoldable pub readOutcome : Trace → List ℤ → List ℤ → List ℕ → ℕ → Outcome
-readOutcome a xs ys t bytes = andThen (traceOutcome a xs ys t bytes) (need (leb 2 (a .held)) (Refused Few) Done)
+readOutcome a xs ys t bytes = andThen (traceOutcome a xs ys t bytes) (unless (leb 2 (a .held)) Few)
 
 -- what the change of sample v asks, of n samples after it
 pub record Ready (a : Trace) (xs ys : List ℤ) (t : List ℕ) (v n : ℕ) (x y : ℤ) : Type 0 where

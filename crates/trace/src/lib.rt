@@ -3,13 +3,13 @@ ghost use mathlib.Core.Path.{_≡_};
 ghost use Prim.Native.Nat.{_*_, _≤_};
 ghost use lib.ListN.{length};
 ghost use Rattle.trace.specs.Calls.{buffers, kept, StartGives, AddGives, CorrectGives, AskGives, ReadGives};
-ghost use Rattle.trace.specs.Rows.{setupOk, tolerancesOk, setupOutcome, lentOk, lentOutcome, samplesOk, sampleOk, stretchOk, traceOutcome, addOutcome, correctOutcome, askOutcome, readOutcome, Ready, Changes};
+ghost use Rattle.trace.specs.Rows.{setupOk, tolerancesOk, setupOutcome, lentOk, lentOutcome, samplesOk, storedOk, sampleOk, stretchOk, traceOutcome, addOutcome, correctOutcome, askOutcome, readOutcome, Ready, Changes};
 use geometry::coordinate_ok;
 use geometry::coordinates_ok;
 use refusal::Outcome;
 use refusal::Refusal;
 use refusal::and_then;
-use refusal::need;
+use refusal::unless;
 
 // A trace's setup: levels m, capacity N, samples held n, and the tolerances of levels 1 to m; those past m are never read.
 pub struct Trace {
@@ -106,13 +106,11 @@ fn tolerances_ok(m: usize, tolerances: [u32; 16]) -> bool
 fn setup_outcome(m: usize, cap: usize, tolerances: [u32; 16]) -> Outcome
     ensures { λ r. ⌜ r ≡ setupOutcome m cap tolerances ⌝ }
 {
-    if !setup_ok(m, cap) {
-        return Outcome::Refused(Refusal::Setup);
-    }
-    if !tolerances_ok(m, tolerances) {
-        return Outcome::Refused(Refusal::Tolerance);
-    }
-    Outcome::Done
+    let o = unless(setup_ok(m, cap), Refusal::Setup);
+    let Outcome::Done = o else {
+        return o;
+    };
+    unless(tolerances_ok(m, tolerances), Refusal::Tolerance)
 }
 
 // The first m tolerances, and zeros after them.
@@ -173,13 +171,9 @@ impl Trace {
         let Outcome::Done = o else {
             return o;
         };
-        let lent = self.lent_ok(levels, xs, ys, cells, bytes);
-        let held = self.held <= self.capacity;
-        need(
-            lent,
-            Refusal::Buffer,
-            need(held, Refusal::Held, Outcome::Done),
-        )
+        let lent = unless(self.lent_ok(levels, xs, ys, cells, bytes), Refusal::Buffer);
+        let held = unless(self.held <= self.capacity, Refusal::Held);
+        and_then(lent, held)
     }
 
     // Whether the coordinates of the samples held are in range.
@@ -187,10 +181,16 @@ impl Trace {
         requires { ⌜ (self .held ≤ length (now xs)) × (self .held ≤ length (now ys)) ⌝ }
         ensures { λ r. ⌜ r ≡ samplesOk self (now (xs .entry)) (now (ys .entry)) ⌝ }
     {
-        if !coordinates_ok(xs, self.held) {
-            return false;
-        }
-        coordinates_ok(ys, self.held)
+        coordinates_ok(xs, self.held) && coordinates_ok(ys, self.held)
+    }
+
+    // Whether they are, and the cells of their stretches may hold what they hold.
+    fn stored_ok(self, xs: &[i16], ys: &[i16], table: &[u16]) -> bool
+        requires { ⌜ (self .held ≤ length (now xs)) × (self .held ≤ length (now ys)) ⌝ }
+        requires { ⌜ (self .levels ≤ 16) × (self .capacity ≤ 256) × (self .levels * (self .capacity * self .capacity) ≤ length (now table)) × (self .held ≤ self .capacity) ⌝ }
+        ensures { λ r. ⌜ r ≡ storedOk self (now (xs .entry)) (now (ys .entry)) (now (table .entry)) ⌝ }
+    {
+        self.samples_ok(xs, ys) && table::cells_ok(table, self.capacity, self.held, self.levels)
     }
 
     // Whether there is such a stretch, and such a level.
@@ -217,13 +217,7 @@ impl Trace {
         let Outcome::Done = o else {
             return o;
         };
-        if !self.samples_ok(xs, ys) {
-            return Outcome::Refused(Refusal::Stored);
-        }
-        if !table::cells_ok(table, self.capacity, self.held, self.levels) {
-            return Outcome::Refused(Refusal::Stored);
-        }
-        Outcome::Done
+        unless(self.stored_ok(xs, ys, table), Refusal::Stored)
     }
 
     // Refusals 1 to 7.
@@ -231,16 +225,9 @@ impl Trace {
         ensures { λ r. ⌜ r ≡ addOutcome self (now (xs .entry)) (now (ys .entry)) (now (table .entry)) x y ⌝ }
     {
         let o = self.trace_outcome(xs, ys, table, self.held);
-        let sample = sample_ok(x, y);
-        let room = self.held < self.capacity;
-        and_then(
-            o,
-            need(
-                sample,
-                Refusal::Coordinate,
-                need(room, Refusal::Full, Outcome::Done),
-            ),
-        )
+        let sample = unless(sample_ok(x, y), Refusal::Coordinate);
+        let room = unless(self.held < self.capacity, Refusal::Full);
+        and_then(o, and_then(sample, room))
     }
 
     // Refusals 1 to 6 and 8.
@@ -256,16 +243,9 @@ impl Trace {
         ensures { λ r. ⌜ r ≡ correctOutcome self (now (xs .entry)) (now (ys .entry)) (now (table .entry)) v x y ⌝ }
     {
         let o = self.trace_outcome(xs, ys, table, self.held);
-        let sample = sample_ok(x, y);
-        let there = v < self.held;
-        and_then(
-            o,
-            need(
-                sample,
-                Refusal::Coordinate,
-                need(there, Refusal::Missing, Outcome::Done),
-            ),
-        )
+        let sample = unless(sample_ok(x, y), Refusal::Coordinate);
+        let there = unless(v < self.held, Refusal::Missing);
+        and_then(o, and_then(sample, there))
     }
 
     // Refusals 1 to 5, without a table, and 8.
@@ -276,13 +256,9 @@ impl Trace {
         let Outcome::Done = o else {
             return o;
         };
-        let samples = self.samples_ok(xs, ys);
-        let there = self.stretch_ok(k, i, j);
-        need(
-            samples,
-            Refusal::Stored,
-            need(there, Refusal::Missing, Outcome::Done),
-        )
+        let stored = unless(self.samples_ok(xs, ys), Refusal::Stored);
+        let there = unless(self.stretch_ok(k, i, j), Refusal::Missing);
+        and_then(stored, there)
     }
 
     // Refusals 1 to 5 and 9.
@@ -290,8 +266,8 @@ impl Trace {
         ensures { λ r. ⌜ r ≡ readOutcome self (now (xs .entry)) (now (ys .entry)) (now (table .entry)) bytes ⌝ }
     {
         let o = self.trace_outcome(xs, ys, table, bytes);
-        let enough = 2 <= self.held;
-        and_then(o, need(enough, Refusal::Few, Outcome::Done))
+        let enough = unless(2 <= self.held, Refusal::Few);
+        and_then(o, enough)
     }
 }
 

@@ -1,5 +1,5 @@
 -- `trace::Trace::ask_outcome` meets its contract. Assumes nothing.
-use mathlib.Core.Path.{_≡_, refl, sym, _∙_}
+use mathlib.Core.Path.{_≡_, sym, _∙_}
 use native.Mathlib.Omega.{arith}
 use lib.ListN.{length}
 use Rattle.refusal.specs.declared.Outcome.the-variants.{Done}
@@ -32,20 +32,25 @@ returns c = then-refused _ (c .before .before .lent-outcome .ensures) (c .enum-t
 samples-ok-requires : tie.Need-samples-ok-requires
 samples-ok-requires c κs = let h = lent-done _ _ _ _ _ _ (passed c) in (omega (arith, h .held, h .long .0), omega (arith, h .held, h .long .1))
 
+unless-requires : tie.Need-unless-requires
+unless-requires c κs = search needs
+
 stretch-ok-requires : tie.Need-stretch-ok-requires
 stretch-ok-requires c κs = search needs
 
-need-requires : tie.Need-need-requires
-need-requires c κs = search needs
+unless-requires-2 : tie.Need-unless-requires-2
+unless-requires-2 c κs = search needs
 
-need-requires-2 : tie.Need-need-requires-2
-need-requires-2 c κs = search needs
+and-then-requires : tie.Need-and-then-requires
+and-then-requires c κs = search needs
 
 returns-2 : tie.Need-returns-2
 unfolding askOutcome
 returns-2 c =
-    let d = c .before .before .before in
-    rw (c .need2 .ensures, c .before .need .ensures, c .before .before .stretch-ok .ensures, d .samples-ok .ensures, passed (d .before)) refl
+    let w = c .before in
+    let u = w .before .before in
+    let d = u .before in
+    rw (c .and-then .ensures, w .unless2 .ensures, w .before .stretch-ok .ensures, u .unless .ensures, d .samples-ok .ensures, passed (d .before))
 
 pub ask-outcome-spec : {M : Type 1} → statement M
 ask-outcome-spec =
@@ -56,7 +61,8 @@ ask-outcome-spec =
     enum-told-2
     returns
     samples-ok-requires
+    unless-requires
     stretch-ok-requires
-    need-requires
-    need-requires-2
+    unless-requires-2
+    and-then-requires
     returns-2)

@@ -1,5 +1,4 @@
 -- `trace::Trace::correct_outcome` meets its contract. Assumes nothing.
-use mathlib.Core.Path.{refl}
 use Rattle.algebra.proofs.Signed.{handed₂}
 use Rattle.trace.specs.Rows.{sampleOk, correctOutcome}
 use borrow.Author.Needs.{needs}
@@ -12,22 +11,27 @@ trace-outcome-requires c κs = search needs
 sample-ok-requires : tie.Need-sample-ok-requires
 sample-ok-requires c κs = search needs
 
-need-requires : tie.Need-need-requires
-need-requires c κs = search needs
+unless-requires : tie.Need-unless-requires
+unless-requires c κs = search needs
 
-need-requires-2 : tie.Need-need-requires-2
-need-requires-2 c κs = search needs
+unless-requires-2 : tie.Need-unless-requires-2
+unless-requires-2 c κs = search needs
 
 and-then-requires : tie.Need-and-then-requires
 and-then-requires c κs = search needs
 
+and-then-requires-2 : tie.Need-and-then-requires-2
+and-then-requires-2 c κs = search needs
+
 returns : tie.Need-returns
 unfolding correctOutcome
 returns c =
-    let d = c .before .before .before .before in
+    let w = c .before .before in
+    let u = w .before .before in
+    let d = u .before in
     let s = d .before .before .before in
     let h = handed₂ sampleOk (s .args .x) (s .args .y) (s .fits .x) (s .fits .y) (d .sample-ok .ensures) in
-    rw (c .and-then .ensures, c .before .need2 .ensures, c .before .before .need .ensures, h, d .before .trace-outcome .ensures) refl
+    rw (c .and-then2 .ensures, c .before .and-then .ensures, w .unless2 .ensures, u .unless .ensures, h, d .before .trace-outcome .ensures)
 
 pub correct-outcome-spec : {M : Type 1} → statement M
 correct-outcome-spec =
@@ -35,7 +39,8 @@ correct-outcome-spec =
     (tie.spec
     trace-outcome-requires
     sample-ok-requires
-    need-requires
-    need-requires-2
+    unless-requires
+    unless-requires-2
     and-then-requires
+    and-then-requires-2
     returns)

@@ -1,5 +1,5 @@
 -- `trace::Trace::lent_outcome` meets its contract. Assumes nothing.
-use mathlib.Core.Path.{_≡_, refl, sym, _∙_}
+use mathlib.Core.Path.{_≡_, sym, _∙_}
 use native.Mathlib.Omega.{arith}
 use Rattle.refusal.specs.declared.Outcome.the-variants.{Done}
 use Rattle.refusal.proofs.Laws.{then-refused}
@@ -27,19 +27,23 @@ unfolding lentOutcome
 returns c = then-refused _ (c .before .before .setup-outcome .ensures) (c .enum-told2 .given .1)
 
 lent-ok-requires : tie.Need-lent-ok-requires
-lent-ok-requires c κs = let h = setup-done _ _ _ (passed c) in (omega arith, h .1)
+lent-ok-requires c κs = let h = setup-done _ _ _ (passed c) in (omega arith, h .3)
 
-need-requires : tie.Need-need-requires
-need-requires c κs = search needs
+unless-requires : tie.Need-unless-requires
+unless-requires c κs = search needs
 
-need-requires-2 : tie.Need-need-requires-2
-need-requires-2 c κs = search needs
+unless-requires-2 : tie.Need-unless-requires-2
+unless-requires-2 c κs = search needs
+
+and-then-requires : tie.Need-and-then-requires
+and-then-requires c κs = search needs
 
 returns-2 : tie.Need-returns-2
 unfolding lentOutcome
 returns-2 c =
-    let d = c .before .before .before in
-    rw (c .need2 .ensures, c .before .need .ensures, d .lent-ok .ensures, passed (d .before)) refl
+    let u = c .before .before .before in
+    let d = u .before in
+    rw (c .and-then .ensures, c .before .unless2 .ensures, u .unless .ensures, d .lent-ok .ensures, passed (d .before))
 
 pub lent-outcome-spec : {M : Type 1} → statement M
 lent-outcome-spec =
@@ -50,6 +54,7 @@ lent-outcome-spec =
     enum-told-2
     returns
     lent-ok-requires
-    need-requires
-    need-requires-2
+    unless-requires
+    unless-requires-2
+    and-then-requires
     returns-2)

@@ -1,0 +1,115 @@
+-- Each test of a check decides the plain statement of its row. Assumes nothing.
+use mathlib.Core.Path.{_≡_}
+use mathlib.Core.Logic.{_⊎_, inl, inr, ⊎-elim}
+use mathlib.Core.Bool.{false, _&&_}
+use mathlib.Core.List.{List}
+use Prim.Native.Nat.{ℕ, zero, suc, _*_, _≤_, _<_}
+use native.Mathlib.Nat.{lt-of-not-le}
+use native.Mathlib.Numerals.{add-one}
+use native.Mathlib.Omega.{arith}
+use lib.IntN.{ℤ}
+use lib.ListN.{length, getD}
+use borrow.Author.Tests.{leb-false, ltb-false}
+use Rattle.refusal.specs.Check.{Decides, from-to}
+use Rattle.refusal.proofs.Laws.{and-fails}
+use Rattle.refusal.proofs.Plain.{carry, by-less, by-order, both-decided, from-to-decided, all-decided}
+use Rattle.geometry.specs.Coordinate.{Coord}
+use Rattle.geometry.proofs.Coordinate.{coordinate-decided, coordinates-decided}
+use Rattle.table.proofs.Check.{cells-decided}
+use Rattle.trace.specs.declared.Trace.{Trace}
+use Rattle.trace.specs.Numbers.{Sized, Tolerances, LentSamples, LentTable, StoredSamples, StoredCells}
+use Rattle.trace.specs.Rows.{before, toleranceOk, setupOk, tolerancesOk, lentOk, samplesOk, storedOk, sampleOk, stretchOk}
+
+pub setup-decided : (m N : ℕ) → Decides (Sized m N) (setupOk m N)
+unfolding setupOk
+setup-decided m N =
+    carry (λ p. (p .0 .0, p .0 .1, p .1 .0, p .1 .1)) (λ p. ((p .0, p .1), (p .2, p .3)))
+    (both-decided (from-to 1 16 m) (from-to 2 256 N) (from-to-decided 1 16 m) (from-to-decided 2 256 N))
+
+pub tolerances-decided : (m : ℕ) (tols : List ℕ) → Decides (Tolerances m tols) (tolerancesOk m tols)
+unfolding tolerancesOk toleranceOk
+tolerances-decided m tols =
+    carry
+    (λ p. record { low = λ l h. omega (arith, p l h .0); high = λ l h. p l h .1; rise = λ l h. rw (add-one l) (p (suc l) (omega arith) .0) })
+    (λ T l h. (above T l h, T .high l h))
+    (all-decided (λ l. (before tols l < getD tols l 0) × (getD tols l 0 ≤ 32768)) _ m
+    (λ l h. both-decided _ _ (by-less (before tols l) (getD tols l 0)) (by-order (getD tols l 0) 32768)))
+  where
+    above : Tolerances m tols → (l : ℕ) → l < m → before tols l < getD tols l 0
+    above T zero h = T .low 0 h
+    above T (suc l) h = rw (add-one l) at (T .rise l (omega arith))
+
+pub lent-decided : (a : Trace) (levels xs ys cells bytes : ℕ)
+    → Decides ((a .capacity ≤ xs) × (a .capacity ≤ ys) × (levels * (a .capacity * a .capacity) ≤ cells) × (a .held ≤ bytes)) (lentOk a levels xs ys cells bytes)
+unfolding lentOk
+lent-decided a levels xs ys cells bytes =
+    carry (λ p. (p .0, p .1 .0, p .1 .1 .0, p .1 .1 .1)) (λ p. (p .0, (p .1, (p .2, p .3))))
+    (both-decided _ _ (by-order (a .capacity) xs)
+    (both-decided _ _ (by-order (a .capacity) ys)
+    (both-decided _ _ (by-order (levels * (a .capacity * a .capacity)) cells) (by-order (a .held) bytes))))
+
+-- the samples alone; with the table; with the table and the ranks
+pub lent-samples : (a : Trace) (xs ys : List ℤ) → Decides (LentSamples a xs ys) (lentOk a 0 (length xs) (length ys) 0 (a .held))
+lent-samples a xs ys = carry (λ p. (p .0, p .1)) (λ p. (p .0, p .1, omega arith, omega arith)) (lent-decided a 0 (length xs) (length ys) 0 (a .held))
+
+pub lent-table : (a : Trace) (xs ys : List ℤ) (t : List ℕ) → Decides (LentSamples a xs ys × LentTable a t) (lentOk a (a .levels) (length xs) (length ys) (length t) (a .held))
+lent-table a xs ys t =
+    carry (λ p. ((p .0, p .1), p .2)) (λ p. (p .0 .0, p .0 .1, p .1, omega arith)) (lent-decided a (a .levels) (length xs) (length ys) (length t) (a .held))
+
+pub lent-ranks : (a : Trace) (xs ys : List ℤ) (t ranks : List ℕ)
+    → Decides (LentSamples a xs ys × LentTable a t × (a .held ≤ length ranks)) (lentOk a (a .levels) (length xs) (length ys) (length t) (length ranks))
+lent-ranks a xs ys t ranks =
+    carry (λ p. ((p .0, p .1), p .2, p .3)) (λ p. (p .0 .0, p .0 .1, p .1, p .2)) (lent-decided a (a .levels) (length xs) (length ys) (length t) (length ranks))
+
+pub samples-decided : (a : Trace) (xs ys : List ℤ) → Decides (StoredSamples a xs ys) (samplesOk a xs ys)
+unfolding samplesOk
+samples-decided a xs ys =
+    carry (λ p q h. (p .0 q h, p .1 q h)) (λ p. (λ q h. p q h .0, λ q h. p q h .1))
+    (both-decided _ _ (coordinates-decided xs (a .held)) (coordinates-decided ys (a .held)))
+
+pub stored-decided : (a : Trace) (xs ys : List ℤ) (t : List ℕ)
+    → Decides (StoredSamples a xs ys × StoredCells a t) (storedOk a xs ys t)
+unfolding storedOk
+stored-decided a xs ys t = both-decided _ _ (samples-decided a xs ys) (cells-decided t (a .capacity) (a .held) (a .levels))
+
+pub sample-decided : (x y : ℤ) → Decides (Coord x × Coord y) (sampleOk x y)
+unfolding sampleOk
+sample-decided x y = both-decided _ _ (coordinate-decided x) (coordinate-decided y)
+
+-- ---- the stretch i to j of n samples and the level k of m, which are there or not
+abbrev pub There : ℕ → ℕ → ℕ → ℕ → ℕ → Type 0
+There n m k i j = (i < j) × (j < n) × (1 ≤ k) × (k ≤ m)
+
+abbrev pub NotThere : ℕ → ℕ → ℕ → ℕ → ℕ → Type 0
+NotThere n m k i j = (j ≤ i) ⊎ (n ≤ j) ⊎ (k < 1) ⊎ (m < k)
+
+pub there-decided : (a : Trace) (k i j : ℕ) → Decides (There (a .held) (a .levels) k i j) (stretchOk a k i j)
+unfolding stretchOk
+there-decided a k i j =
+    carry (λ p. (p .0, p .1 .0, p .1 .1 .0, p .1 .1 .1)) (λ p. (p .0, (p .1, (p .2, p .3))))
+    (both-decided _ _ (by-less i j) (both-decided _ _ (by-less j (a .held)) (from-to-decided 1 (a .levels) k)))
+
+pub not-there : (a : Trace) (k i j : ℕ) → stretchOk a k i j ≡ false → NotThere (a .held) (a .levels) k i j
+unfolding stretchOk
+not-there a k i j e =
+    ⊎-elim
+    (λ t. inl (ltb-false i j t))
+    (λ t. inr (⊎-elim
+    (λ t. inl (ltb-false j (a .held) t))
+    (λ t. inr (⊎-elim (λ t. inl (leb-false 1 k t)) (λ t. inr (leb-false k (a .levels) t)) (and-fails _ _ t)))
+    (and-fails _ _ t)))
+    (and-fails _ _ e)
+
+pub missed : {n m k i j : ℕ} → NotThere n m k i j → There n m k i j → ⊥
+missed (inl h) s = omega arith
+missed (inr (inl h)) s = omega arith
+missed (inr (inr (inl h))) s = omega arith
+missed (inr (inr (inr h))) s = omega arith
+
+pub there : {n m k i j : ℕ} → (NotThere n m k i j → ⊥) → There n m k i j
+there h = (
+  lt-of-not-le (λ l. h (inl l)),
+  lt-of-not-le (λ l. h (inr (inl l))),
+  omega (arith, lt-of-not-le (λ l. h (inr (inr (inl l))))),
+  omega (arith, lt-of-not-le (λ l. h (inr (inr (inr l))))),
+)
