@@ -1,5 +1,6 @@
 -- `trace::Trace::start` meets its contract. Assumes nothing.
 use mathlib.Core.Path.{refl}
+use native.Mathlib.Omega.{arith}
 use borrow.Author.Needs.{needs}
 use Rattle.refusal.specs.Number.{code}
 use Rattle.trace.specs.Numbers.{StartNumber}
@@ -26,7 +27,7 @@ returns : tie.Need-returns
 returns c = record { number = number (c .before .before); done = λ d. done-refused d (c .enum-told2 .given .1); refused = λ w g. refl }
 
 keep-requires : tie.Need-keep-requires
-keep-requires c κs = start-passed _ _ _ (rw (c .enum-told .given .1) at (number (c .before .before))) .0 .1
+keep-requires c κs = let p = start-passed _ _ _ (rw (c .enum-told .given .1) at (number (c .before .before))) in omega (arith, p .0)
 
 returns-2 : tie.Need-returns-2
 returns-2 c = record { number = number (c .before .before .before); done = λ d. rw (c .keep .ensures) refl; refused = λ w g. done-refused (c .before .enum-told .given .1) g }
