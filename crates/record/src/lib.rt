@@ -134,6 +134,7 @@ fn decode_outcome(s: &[u8]) -> Outcome
 // One house record.
 pub fn decode(record: &[u8]) -> Decoded
     ensures { λ r. ⌜ r ≡ decodeOf (now («record» .entry)) ⌝ }
+    ensures { λ r. ⌜ now («record» .exit) ≡ now («record» .entry) ⌝ }
 {
     let o = decode_outcome(record);
     match o {
@@ -163,6 +164,7 @@ pub fn decode(record: &[u8]) -> Decoded
 // The bytes of record i of a file, and none where there is no such record.
 pub fn record_of(file: &[u8], i: usize) -> &[u8]
     ensures { λ r. ⌜ now r ≡ recordBytes (now (file .entry)) i ⌝ }
+    ensures { λ r. ⌜ now (file .exit) ≡ now (file .entry) ⌝ }
 {
     if i < file.len() / RECORD_BYTES {
         &file[RECORD_BYTES * i..RECORD_BYTES * i + RECORD_BYTES]
@@ -251,6 +253,7 @@ fn pause_sum(s: &[u8], n: usize) -> u64
 // The day's pause line of a file of records.
 pub fn pause_line(records: &[u8]) -> PauseLine
     ensures { λ r. ⌜ r ≡ pauseLineOf (now (records .entry)) ⌝ }
+    ensures { λ r. ⌜ now (records .exit) ≡ now (records .entry) ⌝ }
 {
     let o = file_outcome(records);
     match o {

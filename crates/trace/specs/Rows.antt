@@ -1,6 +1,6 @@
 -- The rows of tests that the code is proved against, and what the change of a sample asks and leaves. Only private functions' contracts cite it; `proofs/Numbers.antt`
 -- shows that each row gives the number of `Numbers.antt`. Assumes nothing.
-use Prim.Native.Nat.{ℕ, zero, suc, _+_, _*_, _≤_, _<_}
+use Prim.Native.Nat.{ℕ, zero, suc, _*_, _≤_, _<_}
 use mathlib.Core.Path.{_≡_}
 use mathlib.Core.Bool.{Bool, _&&_}
 use mathlib.Core.List.{List}

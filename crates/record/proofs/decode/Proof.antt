@@ -1,5 +1,5 @@
 -- `record::decode` meets its contract: what is read is read of sixteen bytes. Assumes nothing.
-use mathlib.Core.Path.{_≡_, sym, ap, _∙_}
+use mathlib.Core.Path.{_≡_, refl, sym, ap, _∙_}
 use native.Mathlib.Omega.{arith}
 use lib.ListN.{length}
 use Rattle.refusal.specs.declared.Outcome.{Outcome}
@@ -41,14 +41,14 @@ returns c =
     let s = e .before .before .before .before .args .«record» .now in
     let x = back (c .before .before .before .signed-at .ensures) (c .before .before .before .signed-at .ok) in
     let y = back (c .before .before .signed-at2 .ensures) (c .before .before .signed-at2 .ok) in
-    rw (x, y, c .before .counter-at .ensures) (sym (ap (λ (o : Outcome). decodedBy o s 0) (sym (e .before .before .decode-outcome .ensures) ∙ e .enum-told .given .1)))
+    (rw (x, y, c .before .counter-at .ensures) (sym (ap (λ (o : Outcome). decodedBy o s 0) (sym (e .before .before .decode-outcome .ensures) ∙ e .enum-told .given .1))), refl)
 
 returns-2 : tie.Need-returns-2
 unfolding decodeOf
 returns-2 c =
     let d = c .before .before .before in
     let s = d .before .before .args .«record» .now in
-    sym (ap (λ (o : Outcome). decodedBy o s 0) (sym (d .decode-outcome .ensures) ∙ c .before .o .given .1))
+    (sym (ap (λ (o : Outcome). decodedBy o s 0) (sym (d .decode-outcome .ensures) ∙ c .before .o .given .1)), refl)
 
 pub decode-spec : {M : Type 1} → statement M
 decode-spec =

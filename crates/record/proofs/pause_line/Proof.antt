@@ -1,5 +1,5 @@
 -- `record::pause_line` meets its contract. Assumes nothing.
-use mathlib.Core.Path.{sym, ap, _∙_}
+use mathlib.Core.Path.{refl, sym, ap, _∙_}
 use native.Mathlib.Omega.{arith}
 use Rattle.refusal.specs.declared.Outcome.{Outcome}
 use Rattle.record.specs.Pause.{lineBy, pauseLineOf}
@@ -25,14 +25,14 @@ unfolding pauseLineOf
 returns c =
     let e = c .before in
     let s = e .before .before .before .before .args .records .now in
-    rw (c .pause-sum .ensures) (sym (ap (λ (o : Outcome). lineBy o s) (sym (e .before .before .file-outcome .ensures) ∙ e .enum-told .given .1)))
+    (rw (c .pause-sum .ensures) (sym (ap (λ (o : Outcome). lineBy o s) (sym (e .before .before .file-outcome .ensures) ∙ e .enum-told .given .1))), refl)
 
 returns-2 : tie.Need-returns-2
 unfolding pauseLineOf
 returns-2 c =
     let d = c .before .before .before in
     let s = d .before .before .args .records .now in
-    sym (ap (λ (o : Outcome). lineBy o s) (sym (d .file-outcome .ensures) ∙ c .before .o .given .1))
+    (sym (ap (λ (o : Outcome). lineBy o s) (sym (d .file-outcome .ensures) ∙ c .before .o .given .1)), refl)
 
 pub pause-line-spec : {M : Type 1} → statement M
 pause-line-spec =

@@ -1,5 +1,5 @@
 -- `record::record_of` meets its contract. Assumes nothing.
-use mathlib.Core.Path.{_≡_}
+use mathlib.Core.Path.{_≡_, refl}
 use Prim.Native.Nat.{_+_, _*_, _-_}
 use native.Mathlib.Omega.{arith}
 use borrow.Author.Tests.{lt-ltb, le-ltb}
@@ -40,11 +40,11 @@ unfolding recordBytes
 returns c =
     let a = c .before .before .args in
     let e : (16 * a .i + 16) - 16 * a .i ≡ 16 = omega arith in
-    simp (lt-ltb _ _ (c .before .if1 .taken), e)
+    (simp (lt-ltb _ _ (c .before .if1 .taken), e), refl)
 
 returns-2 : tie.Need-returns-2
 unfolding recordBytes
-returns-2 c = simp (le-ltb _ _ (c .before .if1 .left))
+returns-2 c = (simp (le-ltb _ _ (c .before .if1 .left)), refl)
 
 pub record-of-spec : {M : Type 1} → statement M
 record-of-spec =

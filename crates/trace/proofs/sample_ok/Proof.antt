@@ -1,5 +1,5 @@
 -- `trace::sample_ok` meets its contract. Assumes nothing.
-use mathlib.Core.Path.{sym, _∙_}
+use mathlib.Core.Path.{_∙_}
 use Rattle.geometry.proofs.Coordinate.{coordinate-back}
 use Rattle.trace.specs.Rows.{sampleOk}
 use borrow.Author.Needs.{needs}
