@@ -5,4 +5,5 @@ pub mod Passed
 pub mod Exactly
 pub mod Calls
 pub mod Unique
+pub mod Formulas
 pub mod Unread
