@@ -15,7 +15,8 @@ use Rattle.family.proofs.Local.{Without, with?, genuine-put}
 use Rattle.family.proofs.After.{after-unique}
 use Rattle.table.specs.Table.{cell, Wrote}
 use Rattle.table.proofs.Writes.{wrote-kept, wrote-as, wrote-unique}
-use Rattle.costs.specs.Costs.{perm, LowSteps, Named, namedTest, Rewritten}
+use Rattle.costs.specs.Costs.{Named, namedTest}
+use Rattle.costs.specs.Walk.{perm, LowSteps, Rewritten}
 use Rattle.costs.proofs.Perm.{perm-adjacent, perm-put}
 use Rattle.costs.proofs.Tally.{named-decided}
 

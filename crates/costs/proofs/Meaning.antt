@@ -19,7 +19,8 @@ use Rattle.family.proofs.Foreign.{value-written, written-one}
 use Rattle.family.proofs.Local.{Without, with?}
 use Rattle.family.proofs.Promise.{genuine-meant}
 use Rattle.table.specs.Table.{cell}
-use Rattle.costs.specs.Costs.{Permit, perm, Named, Rewritten, CellsWritten}
+use Rattle.costs.specs.Costs.{Permit, Named, CellsWritten}
+use Rattle.costs.specs.Walk.{perm, Rewritten}
 use Rattle.costs.proofs.Perm.{perm-decided, perm-adjacent}
 use Rattle.costs.proofs.Exit.{named-kept, rewritten-checked, rewritten-unique, corrected-genuine, added-genuine}
 

@@ -18,8 +18,8 @@ use Rattle.refusal.proofs.Plain.{decides-unique}
 use Rattle.geometry.specs.Coordinate.{InRange}
 use Rattle.geometry.proofs.Permits.{permits-decided, permits-wider, permits-adjacent, permits-same, Same}
 use Rattle.family.proofs.Local.{Without}
-use Rattle.costs.specs.Costs.{Permit, perm, Rising}
-use Rattle.costs.specs.Walk.{Finest}
+use Rattle.costs.specs.Costs.{Permit}
+use Rattle.costs.specs.Walk.{perm, Rising, Finest}
 
 pub perm-decided : (xs ys : List ℤ) (tols : List ℕ) (k i j : ℕ) → InRange xs (j + 1) → InRange ys (j + 1) → i < j → Decides (Permit xs ys tols k i j) (perm xs ys tols k i j)
 unfolding perm

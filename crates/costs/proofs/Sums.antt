@@ -8,15 +8,16 @@ use native.Mathlib.Decide.{decLt}
 use native.Mathlib.Omega.{arith}
 use borrow.Author.Tests.{le-leb}
 use lib.ListN.{getD}
-use Rattle.family.specs.Family.{none, least, below, value}
+use Rattle.family.specs.Family.{least, below, value}
+use Rattle.family.specs.Lists.{none}
 use Rattle.family.proofs.Paths.{least-end, least-le}
 use Rattle.family.proofs.Checks.{room, near-small}
 use Rattle.family.proofs.Local.{Without, with?}
 use Rattle.table.specs.Table.{cell}
 use Rattle.table.specs.Path.{SumAt}
 use Rattle.table.proofs.Writes.{wrote-kept}
-use Rattle.costs.specs.Costs.{LowSteps, Named, Rewritten}
-use Rattle.costs.specs.Walk.{Rows, from-finest, Settled}
+use Rattle.costs.specs.Costs.{Named}
+use Rattle.costs.specs.Walk.{LowSteps, Rewritten, Rows, from-finest, Settled}
 
 -- nothing is added from the end itself
 pub sums-end : (c : ℕ → ℕ → ℕ) (j q : ℕ) → q ≡ j → (s : ℕ) → s ≡ 0 → SumAt c q j s

@@ -2,42 +2,23 @@
 use mathlib.Core.Path.{_≡_}
 use mathlib.Core.Bool.{Bool, _&&_, cond}
 use mathlib.Core.List.{List}
-use mathlib.Core.Logic.{_⊎_}
 use Prim.Native.Nat.{ℕ, zero, suc, _+_, _-_, _≤_, _<_}
 use lib.Dec.{leb, ltb}
 use lib.IntN.{ℤ}
 use lib.ListN.{length, getD}
 use Rattle.geometry.specs.Near.{Permitted}
-use Rattle.geometry.specs.Test.{permits}
-use Rattle.family.specs.Family.{value}
 use Rattle.family.specs.Path.{Written}
-use Rattle.table.specs.Table.{at, cell, Wrote}
+use Rattle.table.specs.Table.{at, cell}
 
--- the stretch i to j of the samples is permitted at the tolerance of level k, as a statement and as the test that decides it (`perm-decided`)
+-- the stretch i to j of the samples is permitted at the tolerance of level k
 abbrev pub Permit : List ℤ → List ℤ → List ℕ → ℕ → ℕ → ℕ → Type 0
 Permit xs ys tols k i j = Permitted xs ys i j (getD tols (k - 1) 0)
-
-unfoldable pub perm : List ℤ → List ℤ → List ℕ → ℕ → ℕ → ℕ → Bool
-perm xs ys tols k i j = permits xs ys i j (getD tols (k - 1) 0)
-
--- the tolerances of levels 1 to m rise, and none is above 65,536
-pub record Rising (tols : List ℕ) (m : ℕ) : Type 0 where
-  pub rise : (l : ℕ) → l + 1 < m → getD tols l 0 < getD tols (l + 1) 0
-  pub small : (l : ℕ) → l < m → getD tols l 0 ≤ 65536
-
--- the cells of adjacent samples without sample v, of n samples at levels 1 to m, hold at most their level
-abbrev pub LowSteps : List ℕ → ℕ → ℕ → ℕ → ℕ → Type 0
-LowSteps t N m v n = (k x : ℕ) → 1 ≤ k → k ≤ m → suc x < n → (suc x < v) ⊎ (v < x) → cell t N k x (suc x) ≤ k
 
 -- the cells that a call about sample v names, of n samples at levels 1 to m: those of stretches with v
 abbrev pub Named : ℕ → ℕ → ℕ → ℕ → ℕ → ℕ → Type 0
 Named m v n k i j = (1 ≤ k) × (k ≤ m) × (i ≤ v) × (v ≤ j) × (i < j) × (j < n)
 
--- from t to e exactly the cells that S names are written, each with its value over the cells of e; every other address holds what it held
-abbrev pub Rewritten : ℕ → (ℕ → ℕ → ℕ → Bool) → (ℕ → ℕ → ℕ → Type 0) → List ℕ → List ℕ → Type 0
-Rewritten N perm S t e = Wrote N S (value perm (cell e N)) t e
-
--- the same in the paper's words (`proofs/Meaning.antt` joins the two): each named cell holds what the paper says over the cells of e, those of this call as written and all others as found
+-- from t to e exactly the named cells are written, each with what the paper says over the cells of e, those of this call as written and all others as found; every other address holds what it held
 pub record CellsWritten (N : ℕ) (Permit : ℕ → ℕ → ℕ → Type 0) (m v n : ℕ) (t e : List ℕ) : Type 0 where
   pub same : length e ≡ length t
   pub named : (k i j : ℕ) → Named m v n k i j → Written Permit (cell e N) k i j (cell e N k i j)

@@ -1,14 +1,35 @@
--- The rows of cells that the walk writes, one level and one end at a time. Only private functions' contracts cite it. Assumes nothing.
+-- What the walk asks and leaves, by tests and values: `proofs/Meaning.antt` joins it to the paper's words. Assumes nothing.
 use mathlib.Core.Path.{_≡_}
 use mathlib.Core.Bool.{Bool, cond}
 use mathlib.Core.List.{List}
 use mathlib.Core.Logic.{_⊎_}
-use Prim.Native.Nat.{ℕ, suc, _≤_, _<_}
+use Prim.Native.Nat.{ℕ, suc, _+_, _-_, _≤_, _<_}
 use lib.Dec.{leb}
+use lib.IntN.{ℤ}
 use lib.ListN.{getD}
-use Rattle.family.specs.Family.{none}
-use Rattle.table.specs.Table.{cell}
+use Rattle.geometry.specs.Test.{permits}
+use Rattle.family.specs.Lists.{none}
+use Rattle.family.specs.Family.{value}
+use Rattle.table.specs.Table.{cell, Wrote}
 
+-- the test of a permission, which decides `Permit` (`perm-decided`)
+unfoldable pub perm : List ℤ → List ℤ → List ℕ → ℕ → ℕ → ℕ → Bool
+perm xs ys tols k i j = permits xs ys i j (getD tols (k - 1) 0)
+
+-- the tolerances of levels 1 to m rise, and none is above 65,536
+pub record Rising (tols : List ℕ) (m : ℕ) : Type 0 where
+  pub rise : (l : ℕ) → l + 1 < m → getD tols l 0 < getD tols (l + 1) 0
+  pub small : (l : ℕ) → l < m → getD tols l 0 ≤ 65536
+
+-- the cells of adjacent samples without sample v, of n samples at levels 1 to m, hold at most their level
+abbrev pub LowSteps : List ℕ → ℕ → ℕ → ℕ → ℕ → Type 0
+LowSteps t N m v n = (k x : ℕ) → 1 ≤ k → k ≤ m → suc x < n → (suc x < v) ⊎ (v < x) → cell t N k x (suc x) ≤ k
+
+-- from t to e exactly the cells that S names are written, each with its value over the cells of e; every other address holds what it held
+abbrev pub Rewritten : ℕ → (ℕ → ℕ → ℕ → Bool) → (ℕ → ℕ → ℕ → Type 0) → List ℕ → List ℕ → Type 0
+Rewritten N perm S t e = Wrote N S (value perm (cell e N)) t e
+
+-- ---- one end and one level at a time: only private functions' contracts cite the rest
 -- the cells of level k and end j, from the starts below top; and of the levels 1 to m
 abbrev pub Row : ℕ → ℕ → ℕ → ℕ → ℕ → ℕ → Type 0
 Row k j top k' i j' = (k' ≡ k) × (j' ≡ j) × (i < top)

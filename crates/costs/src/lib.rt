@@ -6,8 +6,8 @@ ghost use Rattle.geometry.specs.Coordinate.{InRange};
 ghost use Rattle.family.specs.Family.{below};
 ghost use Rattle.table.specs.Table.{cell, Wrote};
 ghost use Rattle.table.specs.Path.{SumAt};
-ghost use Rattle.costs.specs.Costs.{perm, Rising, LowSteps, Named, Rewritten, named};
-ghost use Rattle.costs.specs.Walk.{Row, Rows, Finest, from-finest, price as priceOf, Settled};
+ghost use Rattle.costs.specs.Costs.{Named, named};
+ghost use Rattle.costs.specs.Walk.{perm, Rising, LowSteps, Rewritten, Row, Rows, Finest, from-finest, price as priceOf, Settled};
 
 // The least sums to j over the cells of level k, from each place up to j.
 fn sums_to(table: &[u16], cap: usize, k: usize, j: usize) -> [u32; 256]

@@ -6,7 +6,8 @@ use mathlib.Core.Bool.{Bool, true, false, true≢false}
 use native.Mathlib.Omega.{arith}
 use native.Mathlib.Decide.{decLe, decLt}
 use native.Mathlib.Nat.{mul-one, mul-le-mul}
-use Rattle.family.specs.Family.{none, next, below, value}
+use Rattle.family.specs.Family.{next, below, value}
+use Rattle.family.specs.Lists.{none}
 use Rattle.family.specs.Fine.{Fine, Checked}
 use Rattle.family.proofs.Paths.{least-bound, least-next, next-after, next-within}
 

@@ -7,7 +7,8 @@ use mathlib.Core.Bool.{Bool, true, false}
 use native.Mathlib.Omega.{arith}
 use native.Mathlib.Decide.{decLt}
 use native.Mathlib.Nat.{le-refl}
-use Rattle.family.specs.Family.{none, Family, Cost, Costs, cells, total, least, next, below, value, Genuine}
+use Rattle.family.specs.Family.{Family, Cost, Costs, cells, total, least, next, below, value, Genuine}
+use Rattle.family.specs.Lists.{none}
 use Rattle.family.specs.Fine.{Checked}
 use Rattle.family.proofs.Counts.{total-split, total-one, total-nil}
 use Rattle.family.proofs.Paths.{least-end, least-le, least-next, next-after, next-within}

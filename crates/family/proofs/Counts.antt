@@ -6,7 +6,8 @@ use native.Mathlib.Omega.{arith}
 use native.Mathlib.Decide.{decLe}
 use lib.Dec.{leb}
 use borrow.Author.Tests.{le-leb, lt-leb}
-use Rattle.family.specs.Family.{Neighbours, segments, total}
+use Rattle.family.specs.Family.{segments, total}
+use Rattle.family.specs.Lists.{Neighbours}
 
 -- whether x is in level ℓ, as a number
 unfoldable pub one : (ℕ → ℕ) → ℕ → ℕ → ℕ

@@ -7,7 +7,8 @@ use native.Mathlib.Decide.{decLe, decLt}
 use native.Mathlib.Nat.{le-refl}
 use lib.Dec.{leb}
 use borrow.Author.Tests.{le-leb, lt-leb}
-use Rattle.family.specs.Family.{Neighbours, Family, total}
+use Rattle.family.specs.Family.{Family, total}
+use Rattle.family.specs.Lists.{Neighbours}
 use Rattle.family.proofs.Counts.{total-split, total-one, total-same}
 
 -- the walk along the members of level k from any of them to the last, j

@@ -9,8 +9,8 @@ use native.Mathlib.Decide.{decLe, decLt}
 use native.Mathlib.Nat.{le-refl, le-antisymm}
 use mathlib.Core.Bool.{Bool, true, false, cond}
 use Rattle.refusal.specs.Check.{Decides}
-use Rattle.family.specs.Family.{none, Neighbours, least, next, below, value, Read, Readout}
-use Rattle.family.specs.Lists.{numbers, Larger}
+use Rattle.family.specs.Family.{least, next, below, value, Read, Readout}
+use Rattle.family.specs.Lists.{none, Neighbours, numbers, Larger}
 use Rattle.family.specs.Path.{Path, done, step, Best, LeastSum, Written, ReadsBest}
 use Rattle.family.proofs.Paths.{least-end, least-next, least-lt, least-bound, next-after, next-within, path-least}
 use Rattle.family.proofs.Checks.{near-small}

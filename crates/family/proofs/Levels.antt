@@ -12,8 +12,8 @@ use lib.ListN.{length}
 use borrow.Author.Tests.{eq-eqb, ne-eqb}
 use Rattle.refusal.specs.Check.{Decides}
 use Rattle.refusal.proofs.Plain.{decides-true, decides-unique, no-decides}
-use Rattle.family.specs.Family.{Neighbours, Family, Minimal, Cost, segments, total}
-use Rattle.family.specs.Lists.{numbers}
+use Rattle.family.specs.Family.{Family, Minimal, Cost, segments, total}
+use Rattle.family.specs.Lists.{Neighbours, numbers}
 use Rattle.family.specs.Levels
 use Rattle.family.specs.Levels.{Chain, end, link, size, samples, levels, holds, ranks}
 use Rattle.family.proofs.Counts.{one-yes, one-no, segments-nil, segments-suc, segments-split}

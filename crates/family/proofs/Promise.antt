@@ -4,7 +4,8 @@ use mathlib.Core.Path.{_≡_}
 use mathlib.Core.Logic.{_↔_}
 use mathlib.Core.Bool.{Bool, true}
 use Rattle.refusal.specs.Check.{Decides}
-use Rattle.family.specs.Family.{none, Costs, Genuine, Readout}
+use Rattle.family.specs.Family.{Costs, Genuine, Readout}
+use Rattle.family.specs.Lists.{none}
 use Rattle.family.specs.Levels as Levels
 use Rattle.family.specs.Levels.{levels}
 use Rattle.family.proofs.Costs.{genuine-costs, costs-genuine}

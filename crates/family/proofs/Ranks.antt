@@ -5,7 +5,8 @@ use native.Mathlib.Omega.{arith}
 use native.Mathlib.Decide.{decLe, decLt}
 use native.Mathlib.Nat.{le-refl}
 use borrow.Author.Tests.{le-leb, lt-leb, lt-ltb, le-ltb}
-use Rattle.family.specs.Family.{Neighbours, next, Read, Readout, along, rank}
+use Rattle.family.specs.Family.{next, Read, Readout, along, rank}
+use Rattle.family.specs.Lists.{Neighbours}
 use Rattle.family.proofs.Paths.{next-after, next-within}
 use Rattle.family.proofs.Families.{neighbours-same}
 

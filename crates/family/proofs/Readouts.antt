@@ -5,7 +5,8 @@ use mathlib.Core.Bool.{Bool, true}
 use native.Mathlib.Omega.{arith}
 use native.Mathlib.Decide.{decLe}
 use native.Mathlib.Nat.{le-refl}
-use Rattle.family.specs.Family.{none, Family, Chosen, total, least, next, below, Genuine, Read, Readout, rank}
+use Rattle.family.specs.Family.{Family, Chosen, total, least, next, below, Genuine, Read, Readout, rank}
+use Rattle.family.specs.Lists.{none}
 use Rattle.family.proofs.Counts.{total-split, total-one, total-nil}
 use Rattle.family.proofs.Paths.{least-end, least-le, least-lt, least-next, least-join}
 use Rattle.family.proofs.Families.{walk, family-part, family-down, family-up, family-join}

@@ -5,7 +5,8 @@ use mathlib.Core.Logic.{_↔_}
 use native.Mathlib.Omega.{arith}
 use native.Mathlib.Decide.{decLe, decLt}
 use native.Mathlib.Nat.{le-refl, le-antisymm}
-use Rattle.family.specs.Family.{Neighbours, next, Read, Readout, Prefers}
+use Rattle.family.specs.Family.{next, Read, Readout, Prefers}
+use Rattle.family.specs.Lists.{Neighbours}
 
 -- the members of level k nearest to a sample y that is none
 module _ (s : ℕ → ℕ) (k : ℕ) where

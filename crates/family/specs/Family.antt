@@ -5,17 +5,7 @@ use mathlib.Core.Path.{_≡_}
 use mathlib.Core.Logic.{_↔_}
 use mathlib.Core.Bool.{Bool, true, false, cond}
 use lib.Dec.{leb, ltb}
-
--- what a cell holds when its stretch is not permitted
-abbrev pub none : ℕ
-none = 65535
-
--- p and q are neighbours in level ℓ: both in it, and nothing in it strictly between
-pub record Neighbours (r : ℕ → ℕ) (ℓ p q : ℕ) : Type 0 where
-  pub order : p < q
-  pub left : ℓ ≤ r p
-  pub right : ℓ ≤ r q
-  pub between : (x : ℕ) → p < x → x < q → r x < ℓ
+use Rattle.family.specs.Lists.{none, Neighbours}
 
 -- the segments of level ℓ from i to j: as many as samples x of the level with i < x ≤ j
 unfoldable pub segments : (ℕ → ℕ) → ℕ → ℕ → ℕ → ℕ

@@ -7,8 +7,7 @@ use mathlib.Core.Bool.{cond}
 use mathlib.Core.List.{List, [], _∷_, List·Memᴰ as In}
 use lib.Dec.{eqb}
 use lib.ListN.{length}
-use Rattle.family.specs.Family.{none}
-use Rattle.family.specs.Lists.{numbers, Larger}
+use Rattle.family.specs.Lists.{none, numbers, Larger}
 
 -- the list goes up from i to j, and each pair of neighbours in it is a stretch that P permits
 pub data Chain (P : ℕ → ℕ → Type 0) (j : ℕ) : ℕ → List ℕ → Type 0 where

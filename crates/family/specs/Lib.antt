@@ -1,5 +1,5 @@
-pub mod Family
 pub mod Lists
 pub mod Levels
 pub mod Path
 pub mod Fine
+pub mod Family

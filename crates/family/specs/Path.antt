@@ -4,8 +4,7 @@ use Prim.Native.Nat.{ℕ, suc, _+_, _-_, _≤_, _<_}
 use mathlib.Core.Path.{_≡_}
 use mathlib.Core.Logic.{_⊎_}
 use mathlib.Core.List.{List, [], _∷_}
-use Rattle.family.specs.Family.{none, Neighbours}
-use Rattle.family.specs.Lists.{numbers, Larger}
+use Rattle.family.specs.Lists.{none, Neighbours, numbers, Larger}
 
 -- a path from p to j over cells of one level, none of them `none`: its sample numbers and its sum
 pub data Path (c : ℕ → ℕ → ℕ) (j : ℕ) : ℕ → List ℕ → ℕ → Type 0 where

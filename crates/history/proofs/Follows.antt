@@ -10,7 +10,8 @@ use Rattle.refusal.proofs.Rows.{code-one, first-taken, first-passed, first-has}
 use Rattle.family.proofs.Checks.{room}
 use Rattle.family.proofs.Costs.{genuine-checked}
 use Rattle.table.specs.Table.{cell}
-use Rattle.costs.specs.Costs.{Permit, perm}
+use Rattle.costs.specs.Costs.{Permit}
+use Rattle.costs.specs.Walk.{perm}
 use Rattle.costs.proofs.Perm.{perm-adjacent}
 use Rattle.costs.proofs.Meaning.{permissions, genuine-is}
 use Rattle.readout.proofs.Meaning.{read-chosen, ranks-read}

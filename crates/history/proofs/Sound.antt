@@ -12,7 +12,8 @@ use Rattle.refusal.proofs.Rows.{by-outcome}
 use Rattle.geometry.specs.Coordinate.{InRange}
 use Rattle.family.specs.Levels as Levels
 use Rattle.table.specs.Table.{cell}
-use Rattle.costs.specs.Costs.{Permit, perm, Named, Rewritten}
+use Rattle.costs.specs.Costs.{Permit, Named}
+use Rattle.costs.specs.Walk.{perm, Rewritten}
 use Rattle.costs.proofs.Meaning.{added-costs, corrected-costs}
 use Rattle.trace.specs.declared.Trace.{Trace}
 use Rattle.trace.specs.declared.Changed.{Changed}

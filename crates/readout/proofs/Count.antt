@@ -9,7 +9,7 @@ use lib.ListN.{length, getD, set, length-set}
 use lib.Seq.{getD-set-same, getD-set-other}
 use Rattle.family.specs.Family.{segments, total}
 use Rattle.family.proofs.Counts.{one, one-yes, one-no, segments-suc}
-use Rattle.readout.specs.Read.{Counted}
+use Rattle.readout.specs.Lay.{Counted}
 
 -- the segments up to x, and one sample more
 module _ (r : ℕ → ℕ) (k x : ℕ) where

@@ -9,8 +9,8 @@ use lib.ListN.{length}
 use Rattle.family.specs.Family.{Readout}
 use Rattle.family.proofs.Ranks.{read-flat}
 use Rattle.table.specs.Table.{cell}
-use Rattle.readout.specs.Read.{rank, Ranked}
-use Rattle.readout.specs.Lay.{LaidTo, Laying, Bare, Started}
+use Rattle.readout.specs.Read.{rank}
+use Rattle.readout.specs.Lay.{Ranked, LaidTo, Laying, Bare, Started}
 
 -- the levels above l of the read-out are laid: f the ranks at entry, g now
 pub record Down (c : ℕ → ℕ → ℕ → ℕ) (m n l : ℕ) (f g : ℕ → ℕ) : Type 0 where

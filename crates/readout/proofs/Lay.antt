@@ -5,7 +5,8 @@ use Prim.Native.Nat.{ℕ, _≤_, _<_, max}
 use native.Mathlib.Nat.{eq-or-lt-of-le, not-suc-le-zero}
 use native.Mathlib.Decide.{ℕ-discrete, decLe, decLt}
 use native.Mathlib.Omega.{arith}
-use Rattle.family.specs.Family.{Neighbours, next}
+use Rattle.family.specs.Family.{next}
+use Rattle.family.specs.Lists.{Neighbours}
 use Rattle.family.proofs.Paths.{next-after, next-within}
 use Rattle.readout.specs.Lay.{Above, Way, Laying, Bare}
 

@@ -6,7 +6,7 @@ use Prim.Native.Nat.{ℕ, suc, _-_, _*_, _≤_, _<_, zero-le}
 use native.Mathlib.Omega.{arith}
 use lib.ListN.{length, getD}
 use Rattle.refusal.specs.Check.{Decides}
-use Rattle.family.specs.Family.{none}
+use Rattle.family.specs.Lists.{none}
 use Rattle.family.specs.Fine.{Checked}
 use Rattle.family.specs.Path.{ReadsBest}
 use Rattle.family.specs.Levels as Levels
@@ -16,7 +16,8 @@ use Rattle.family.proofs.Foreign.{readout-best, best-readout}
 use Rattle.family.proofs.Levels.{levels-segments, levels-total}
 use Rattle.family.proofs.Promise.{read-promised}
 use Rattle.table.specs.Table.{cell}
-use Rattle.readout.specs.Read.{rank, ReadBy, RanksRead}
+use Rattle.readout.specs.Read.{rank, RanksRead}
+use Rattle.readout.specs.Lay.{ReadBy}
 use Rattle.readout.proofs.Unique.{read-unique}
 
 module _ (t : List ℕ) (N m n : ℕ) (r e per : List ℕ) (sum : ℕ) (R : ReadBy t N m n r e per sum) (some : 0 < n) where

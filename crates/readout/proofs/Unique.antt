@@ -10,7 +10,8 @@ use Rattle.family.proofs.Counts.{segments-same, total-same}
 use Rattle.family.proofs.Local.{readout-cells}
 use Rattle.family.proofs.Ties.{readout-unique}
 use Rattle.table.specs.Table.{cell}
-use Rattle.readout.specs.Read.{rank, Ranked, Counted, ReadBy}
+use Rattle.readout.specs.Read.{rank}
+use Rattle.readout.specs.Lay.{Ranked, Counted, ReadBy}
 
 pub ranked-unique : (t : List ℕ) (N m n : ℕ) (r e f : List ℕ) → Ranked t N m n r e → Ranked t N m n r f → e ≡ f
 ranked-unique t N m n r e f E F = ext-getD 0 e f (E .same ∙ sym (F .same)) (λ x h. elim (decLt x n) [

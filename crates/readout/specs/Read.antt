@@ -3,7 +3,6 @@ use mathlib.Core.Path.{_≡_}
 use mathlib.Core.List.{List}
 use Prim.Native.Nat.{ℕ, _-_, _≤_}
 use lib.ListN.{length, getD}
-use Rattle.family.specs.Family.{Readout, segments, total}
 use Rattle.family.specs.Path.{ReadsBest}
 use Rattle.family.specs.Levels.{levels, size}
 use Rattle.table.specs.Table.{cell}
@@ -12,25 +11,8 @@ use Rattle.table.specs.Table.{cell}
 abbrev pub rank : List ℕ → ℕ → ℕ
 rank e x = getD e x 0
 
--- from r to e the ranks of n samples, read out over m levels of the table t with room for N samples, are written and nothing else
-pub record Ranked (t : List ℕ) (N m n : ℕ) (r e : List ℕ) : Type 0 where
-  pub same : length e ≡ length r
-  pub readout : Readout (cell t N) m n (rank e)
-  pub other : (x : ℕ) → n ≤ x → rank e x ≡ rank r x
-
--- the segments of each of the first m levels of n samples with ranks r, 0 past m, and their total
-pub record Counted (r : ℕ → ℕ) (m n : ℕ) (per : List ℕ) (sum : ℕ) : Type 0 where
-  pub room : length per ≡ 16
-  pub level : (k : ℕ) → 1 ≤ k → k ≤ m → getD per (k - 1) 0 ≡ segments r k 0 (n - 1)
-  pub past : (x : ℕ) → m ≤ x → getD per x 0 ≡ 0
-  pub all : sum ≡ total r m 0 (n - 1)
-
--- a read-out: the ranks are written, and the counts are those of the ranks written
-pub record ReadBy (t : List ℕ) (N m n : ℕ) (r e per : List ℕ) (sum : ℕ) : Type 0 where
-  pub ranks : Ranked t N m n r e
-  pub counts : Counted (rank e) m n per sum
-
--- the same in the paper's words (`proofs/Meaning.antt` joins the two): each level the best path between neighbours of the level above, and the counts those of the lists of sample numbers
+-- from r to e the ranks of n samples are written, read out over m levels of the table t with room for N samples, and no other byte: each level is the best path between
+-- neighbours of the level above; the counts are those of the lists of sample numbers written
 pub record RanksRead (t : List ℕ) (N m n : ℕ) (r e per : List ℕ) (sum : ℕ) : Type 0 where
   pub same : length e ≡ length r
   pub best : ReadsBest (cell t N) m n (rank e)

@@ -4,8 +4,8 @@ ghost use Prim.Native.Nat.{ℕ, _+_, _-_, _*_, _≤_, _<_};
 ghost use lib.ListN.{length, getD};
 ghost use Rattle.family.specs.Family.{segments};
 ghost use Rattle.table.specs.Table.{cell};
-ghost use Rattle.readout.specs.Read.{rank, Ranked, Counted, ReadBy};
-ghost use Rattle.readout.specs.Lay.{Way, Laying, Bare, Marked, Filled, Started};
+ghost use Rattle.readout.specs.Read.{rank};
+ghost use Rattle.readout.specs.Lay.{Ranked, Counted, ReadBy, Way, Laying, Bare, Marked, Filled, Started};
 
 // The chosen stop after each sample on the way to the next sample of a level above k.
 fn stops(table: &[u16], ranks: &[u8], cap: usize, k: usize, n: usize) -> [usize; 256]

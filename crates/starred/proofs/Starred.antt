@@ -6,7 +6,7 @@ use Rattle.geometry.specs.Coordinate.{coordinateOk, coordinatesOk}
 use Rattle.geometry.specs.Shifted.{apart}
 use Rattle.geometry.specs.Test.{cross-sq, reaches, permits}
 use Rattle.family.specs.Family.{cells, value, below, least, least-by, via, hop, next, along, rank, total, segments}
-use Rattle.costs.specs.Costs.{perm}
+use Rattle.costs.specs.Walk.{perm}
 use Rattle.record.specs.Record.{word, signed, signedAt, counter, spareOk, recordOutcome}
 use Rattle.record.specs.Pause.{fileLengthOk, recordsOutcome, fileOutcome, increase, increaseAt, pauseSum, pauseLineOf}
 use Rattle.starred.specs.Cases.{All, starred}

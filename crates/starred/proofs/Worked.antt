@@ -14,7 +14,8 @@ use Rattle.refusal.proofs.Plain.{yes-decides, both-decided, from-to-decided, by
 use Rattle.geometry.specs.Coordinate.{coordinatesOk}
 use Rattle.geometry.proofs.Coordinate.{in-range}
 use Rattle.geometry.proofs.Permits.{permitted-adjacent}
-use Rattle.family.specs.Family.{none, cells, rank, segments, total}
+use Rattle.family.specs.Family.{cells, rank, segments, total}
+use Rattle.family.specs.Lists.{none}
 use Rattle.family.specs.Levels as Levels
 use Rattle.family.specs.Levels.{end, link, levels, size}
 use Rattle.family.proofs.Checks.{room}
@@ -22,7 +23,7 @@ use Rattle.family.proofs.Costs.{cells-genuine}
 use Rattle.family.proofs.Levels.{levels-total, ranks-levels}
 use Rattle.family.proofs.Promise.{genuine-meant, read-promised}
 use Rattle.family.proofs.Ranks.{readout}
-use Rattle.costs.specs.Costs.{perm}
+use Rattle.costs.specs.Walk.{perm}
 use Rattle.costs.proofs.Perm.{perm-adjacent}
 use Rattle.costs.proofs.Meaning.{permissions}
 use Rattle.starred.specs.Cases.{Sample, across, upward, PermitOf, listed, Ranked, Case, permitted, not-permitted, serves, ranked, costs, two-samples, one-sample, paused, Holds, All}

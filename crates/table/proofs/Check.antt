@@ -9,7 +9,7 @@ use lib.Dec.{eqb, ltb}
 use lib.ListN.{getD}
 use Rattle.refusal.specs.Check.{Decides, from-to}
 use Rattle.refusal.proofs.Plain.{carry, by-equal, by-less, both-decided, either-decided, from-to-decided, all-decided}
-use Rattle.family.specs.Family.{none}
+use Rattle.family.specs.Lists.{none}
 use Rattle.family.specs.Fine.{Fine, Checked}
 use Rattle.table.specs.Table.{at, cell}
 use Rattle.table.specs.Check.{cellOk, rowOk, levelOk, cellsOk}

@@ -5,7 +5,7 @@ use Prim.Native.Nat.{ℕ, _+_, _-_, _*_}
 use lib.Dec.{ltb, eqb}
 use lib.ListN.{getD}
 use Rattle.refusal.specs.Check.{allBelow, from-to}
-use Rattle.family.specs.Family.{none}
+use Rattle.family.specs.Lists.{none}
 use Rattle.table.specs.Table.{at}
 
 -- a cell of level k and a stretch of so many steps: 65,535, but not of neighbours, or from k to 1 + (k - 1) steps

@@ -12,7 +12,8 @@ use Rattle.refusal.proofs.Rows.{numbered}
 use Rattle.family.specs.Fine.{Fine}
 use Rattle.family.proofs.Local.{Without}
 use Rattle.table.specs.Table.{cell}
-use Rattle.costs.specs.Costs.{perm, Named, Rewritten}
+use Rattle.costs.specs.Costs.{Named}
+use Rattle.costs.specs.Walk.{perm, Rewritten}
 use Rattle.costs.proofs.Exit.{earlier}
 use Rattle.trace.specs.declared.Trace.{Trace}
 use Rattle.trace.specs.declared.Changed.{Changed}

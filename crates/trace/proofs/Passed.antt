@@ -14,7 +14,7 @@ use lib.Seq.{getD-set-same, getD-set-other}
 use Rattle.refusal.specs.Check.{Decides, First}
 use Rattle.refusal.proofs.Rows.{Reached, reached-none, reached-as, reached-more, reached-unless}
 use Rattle.geometry.specs.Coordinate.{Coord, InRange}
-use Rattle.costs.specs.Costs.{Rising}
+use Rattle.costs.specs.Walk.{Rising}
 use Rattle.costs.proofs.Exit.{added-steps, corrected-steps}
 use Rattle.trace.specs.declared.Trace.{Trace}
 use Rattle.trace.specs.Numbers.{Sized, Tolerances, LentSamples, LentTable, StoredSamples, StoredCells, Good, SetupNumber, TraceNumber, StartNumber, AddNumber, CorrectNumber, AskNumber, ReadNumber}

@@ -17,7 +17,8 @@ use Rattle.geometry.proofs.Permits.{Same, permitted-same, permits-same}
 use Rattle.family.specs.Fine.{Checked}
 use Rattle.family.proofs.Local.{Without, value-same, put-unique}
 use Rattle.table.specs.Table.{cell}
-use Rattle.costs.specs.Costs.{Permit, perm, Named, Rewritten}
+use Rattle.costs.specs.Costs.{Permit, Named}
+use Rattle.costs.specs.Walk.{perm, Rewritten}
 use Rattle.costs.proofs.Exit.{rewritten-kept}
 use Rattle.readout.proofs.Unique.{read-alike}
 use Rattle.readout.proofs.Meaning.{ranks-read}

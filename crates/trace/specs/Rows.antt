@@ -13,7 +13,8 @@ use Rattle.refusal.specs.declared.Outcome.the-variants.{Done}
 use Rattle.refusal.specs.Check.{unless, andThen, allBelow, from-to}
 use Rattle.geometry.specs.Coordinate.{InRange, coordinateOk, coordinatesOk}
 use Rattle.table.specs.Check.{cellsOk}
-use Rattle.costs.specs.Costs.{perm, Rising, LowSteps, Named, Rewritten, named}
+use Rattle.costs.specs.Costs.{Named, named}
+use Rattle.costs.specs.Walk.{perm, Rising, LowSteps, Rewritten}
 use Rattle.trace.specs.declared.Trace.{Trace}
 use Rattle.trace.specs.declared.Changed.{Changed}
 use Rattle.trace.specs.Calls.{holding}

@@ -5,7 +5,7 @@ use mathlib.Core.Logic.{⊎-elim}
 use native.Mathlib.Nat.{eq-or-lt-of-le}
 use Prim.Native.Nat.{ℕ, _+_, _-_, _≤_, _<_}
 use native.Mathlib.Omega.{arith}
-use Rattle.costs.specs.Costs.{perm}
+use Rattle.costs.specs.Walk.{perm}
 use Rattle.costs.proofs.Perm.{perm-judged, perm-higher, finest-is}
 use Rattle.costs.proofs.finest.Statement.{statement}
 use Rattle.costs.proofs.finest.Tie as tie

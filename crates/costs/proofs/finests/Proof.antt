@@ -4,8 +4,7 @@ use Prim.Native.Nat.{ℕ, _-_, _≤_, _<_}
 use native.Mathlib.Omega.{arith}
 use lib.ListN.{length, getD, length-set}
 use Rattle.table.proofs.Stops.{filled}
-use Rattle.costs.specs.Costs.{perm}
-use Rattle.costs.specs.Walk.{Finest}
+use Rattle.costs.specs.Walk.{perm, Finest}
 use Rattle.costs.proofs.finests.Statement.{statement}
 use Rattle.costs.proofs.finests.Tie as tie
 

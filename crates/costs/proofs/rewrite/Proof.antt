@@ -3,7 +3,8 @@ use mathlib.Core.Path.{_≡_, sym}
 use Prim.Native.Nat.{_+_, _-_, _≤_, min}
 use native.Mathlib.Omega.{arith}
 use native.Mathlib.Nat.{mul-le-mul}
-use Rattle.costs.specs.Costs.{perm, Named, Rewritten, named}
+use Rattle.costs.specs.Costs.{Named, named}
+use Rattle.costs.specs.Walk.{perm, Rewritten}
 use Rattle.geometry.proofs.Coordinate.{fewer}
 use Rattle.costs.proofs.Perm.{perm-adjacent}
 use Rattle.costs.proofs.Rows.{ends-none, ends-more}

@@ -6,8 +6,7 @@ use native.Mathlib.Nat.{zero-mul, suc-mul, mul-le-mul}
 use native.Mathlib.Numerals.{add-one}
 use lib.ListN.{length, getD}
 use Rattle.table.proofs.Address.{room-below}
-use Rattle.costs.specs.Costs.{Rewritten}
-use Rattle.costs.specs.Walk.{Rows, from-finest}
+use Rattle.costs.specs.Walk.{Rewritten, Rows, from-finest}
 use Rattle.costs.proofs.Rows.{rows-none, rows-more}
 use Rattle.costs.proofs.Sums.{rows-small}
 use Rattle.costs.proofs.write_rows.Statement.{statement}

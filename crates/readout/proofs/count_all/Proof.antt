@@ -3,7 +3,8 @@ use mathlib.Core.Path.{_≡_, refl}
 use Prim.Native.Nat.{_-_, _*_, _≤_}
 use native.Mathlib.Omega.{arith}
 use Rattle.table.proofs.Stops.{zeros}
-use Rattle.readout.specs.Read.{rank, Counted}
+use Rattle.readout.specs.Read.{rank}
+use Rattle.readout.specs.Lay.{Counted}
 use Rattle.readout.proofs.Count.{counted-none, counted-more}
 use Rattle.readout.proofs.count_all.Statement.{statement}
 use Rattle.readout.proofs.count_all.Tie as tie

@@ -6,7 +6,8 @@ use lib.ListN.{length}
 use borrow.Author.Needs.{needs}
 use Rattle.table.specs.Table.{cell}
 use Rattle.table.proofs.Address.{room-below}
-use Rattle.readout.specs.Read.{rank, Ranked}
+use Rattle.readout.specs.Read.{rank}
+use Rattle.readout.specs.Lay.{Ranked}
 use Rattle.readout.proofs.Down.{Down, down-none, down-bare, down-more, ranked}
 use Rattle.readout.proofs.lay_all.Statement.{statement}
 use Rattle.readout.proofs.lay_all.Tie as tie
