@@ -1,20 +1,21 @@
--- What is known of the table after a call about sample v: it is the only one, its cells stay the costs, and it passes check 5 again. Assumes nothing.
-use mathlib.Core.Path.{_≡_, sym, _∙_}
+-- What is known of the table after a call about sample v: there is one, it is the only one, its cells stay the costs, and it passes check 5 again. Assumes nothing.
+use mathlib.Core.Path.{_≡_, refl, sym, _∙_}
 use mathlib.Core.Logic.{_⊎_, inl, inr, ⊎-elim}
 use mathlib.Core.Bool.{Bool, true}
 use mathlib.Core.List.{List}
-use Prim.Native.Nat.{ℕ, suc, _+_, _≤_, _<_}
+use Prim.Native.Nat.{ℕ, suc, _+_, _*_, _≤_, _<_}
 use native.Mathlib.Omega.{arith}
 use lib.IntN.{ℤ}
-use lib.ListN.{set}
+use lib.ListN.{length, set}
 use Rattle.refusal.proofs.Plain.{decided}
 use Rattle.family.specs.Family.{value, after, Genuine}
 use Rattle.family.specs.Fine.{Fine, Checked}
 use Rattle.family.proofs.Checks.{room, checked-near, checked-by}
-use Rattle.family.proofs.Local.{Without, with?, genuine-put}
-use Rattle.family.proofs.After.{after-unique}
+use Rattle.family.proofs.Local.{Without, with?, value-same, genuine-put}
+use Rattle.family.proofs.After.{after-with, after-without, after-unique}
 use Rattle.table.specs.Table.{cell, Wrote}
-use Rattle.table.proofs.Writes.{wrote-kept, wrote-as, wrote-unique}
+use Rattle.table.proofs.Address.{at-in, room-below}
+use Rattle.table.proofs.Writes.{wrote-kept, wrote-as, wrote-unique, wrote-some}
 use Rattle.costs.specs.Costs.{Named, namedTest}
 use Rattle.costs.specs.Walk.{perm, LowSteps, Rewritten}
 use Rattle.costs.proofs.Perm.{perm-adjacent, perm-put}
@@ -61,6 +62,25 @@ pub rewritten-unique : (N : ℕ) (perm : ℕ → ℕ → ℕ → Bool) (m v n : 
 rewritten-unique N perm m v n o hn t e f w x =
     wrote-unique N (Named m v n) (after perm (cell t N) v) (omega arith) (λ k i j s. omega arith) (λ k i j. decided (namedTest m v n k i j) (named-decided m v n k i j)) t e f
     (as-after N perm m v n hn t e w) (as-after N perm m v n hn t f x)
+
+-- and there is one, where the table has room
+pub rewritten-some : (N : ℕ) (perm : ℕ → ℕ → ℕ → Bool) (m v n : ℕ) → v < n → n ≤ N → (t : List ℕ) → m * (N * N) ≤ length t → (e : List ℕ) × Rewritten N perm (Named m v n) t e
+rewritten-some N perm m v n o hn t room =
+    let w = wrote-some N (Named m v n) (after perm (cell t N) v) (omega arith) (λ k i j s. omega arith) (λ k i j. decided (namedTest m v n k i j) (named-decided m v n k i j)) t
+    (λ k i j s. at-in N k i j (length t) (s .0) (omega arith) (omega arith) (room-below N k m (length t) (s .1) room)) in
+    (w .0, values (w .0) (w .1))
+  where
+    -- every cell of a stretch i < j < n is the one after the call, found or written
+    cells : (e : List ℕ) → Wrote N (Named m v n) (after perm (cell t N) v) t e → (k i j : ℕ) → 1 ≤ k → k ≤ m → i < j → j < n → after perm (cell t N) v k i j ≡ cell e N k i j
+    cells e w k i j a b d h = ⊎-elim
+        (λ y. after-without perm (cell t N) v k i j y ∙ sym (named-kept N (after perm (cell t N) v) m v n hn t e w k i j a b d h y))
+        (λ y. sym (w .named k i j (a, b, y .0, y .1, d, h)))
+        (with? v i j)
+
+    values : (e : List ℕ) → Wrote N (Named m v n) (after perm (cell t N) v) t e → Rewritten N perm (Named m v n) t e
+    values e w = wrote-as N (after perm (cell t N) v) (Named m v n) t e w (λ k i j s. omega arith) (value perm (cell e N))
+        (λ k i j s. after-with perm (cell t N) v k i j (s .0) (s .2) (s .3)
+        ∙ value-same perm perm (after perm (cell t N) v) (cell e N) k i j (s .4) refl (λ ℓ p q a b u d h. cells e w ℓ p q a (omega arith) d (omega arith)))
 
 -- a stretch of n + 1 samples without the last is one of n samples
 pub earlier : (n i j : ℕ) → i < j → j < n + 1 → Without n i j → j < n

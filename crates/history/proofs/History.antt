@@ -1,7 +1,7 @@
 -- The theorems of any sequence of calls, refused ones included. Assumes nothing.
 use mathlib.Core.Path.{_≡_, refl, sym, ap, subst, _∙_}
 use mathlib.Core.Bool.{true, true≢false}
-use mathlib.Core.List.{List, _∷_}
+use mathlib.Core.List.{List, [], _∷_}
 use Prim.Native.Nat.{ℕ, _+_}
 use lib.IntN.{ℤ, pos}
 use lib.ListN.{length, length-set}
@@ -15,6 +15,7 @@ use Rattle.trace.specs.declared.Started.{Started}
 use Rattle.trace.specs.declared.Changed.{Changed}
 use Rattle.trace.specs.declared.Levels.{Levels}
 use Rattle.trace.specs.Calls.{Put, holding}
+use Rattle.trace.proofs.Exists.{start-some, add-some, correct-some, ask-some, read-some}
 use Rattle.trace.proofs.Unique.{start-one, add-one, correct-one, ask-one, read-one}
 use Rattle.history.specs.Run.{State, Call, Answer, Step, Run, answered}
 use Rattle.history.specs.Run.Call.{start, add, correct, ask, read}
@@ -22,7 +23,7 @@ use Rattle.history.specs.Run.Answer.{started, changed, said, levels}
 use Rattle.history.specs.Run.Step.{starts, adds, corrects, asks, reads}
 use Rattle.history.specs.Run.Run.{none, next}
 use Rattle.history.specs.Hold.{CostsHeld, Shown, Touched, MayChange, RefusedLeaves, heldAfter, onTrace, allOnTrace}
-use Rattle.history.proofs.Sound.{Sound, state-is, lent-is, not-put, started-sound, step-sound}
+use Rattle.history.proofs.Sound.{Sound, state, state-is, lent-is, not-put, started-sound, step-sound}
 use Rattle.history.proofs.Follows.{sound-shown, Possible, step-number, bare-number}
 
 run-sound : {s e : State} {cs : List Call} {rs : List Answer} → Sound s → Run s cs rs e → Sound e
@@ -128,7 +129,22 @@ pub refused-later : {s e f : State} {m N : ℕ} {tols : List ℕ} {cs : List Cal
     → (answered r ≡ 0 → ⊥) → allOnTrace cs ≡ true → Step e f c q → onTrace c ≡ true → answered q ≡ 1
 refused-later (next p R) n h q o = bare-number (ap (λ (a : Trace). a .levels) (run-setup R h) ∙ ap (λ (a : Trace). a .levels) (refused-keeps p n .0)) q o
 
--- ---- one result
+-- ---- there is a result: every call has a step from every state, and every list of calls a run
+pub step-some : (s : State) (c : Call) → (r : Answer) × (e : State) × Step s e c r
+step-some s (start m N tols) = let w = start-some m N tols in (started (w .0), state (w .0 .trace) (s .lent) (s .ranks), starts (w .1) refl refl refl)
+step-some s (add x y) = let w = add-some (s .trace) (s .lent) x y in (changed (w .0), state (w .0 .trace) (w .1) (s .ranks), adds (w .2) refl refl)
+step-some s (correct v x y) = let w = correct-some (s .trace) (s .lent) v x y in (changed (w .0), state (w .0 .trace) (w .1) (s .ranks), corrects (w .2) refl refl)
+step-some s (ask k i j) = let w = ask-some (s .trace) (s .lent .across) (s .lent .upward) k i j in (said (w .0), s, asks (w .1) refl refl refl)
+step-some s read = let w = read-some (s .trace) (s .lent) (s .ranks) in (levels (w .0), state (s .trace) (s .lent) (w .1), reads (w .2) refl)
+
+pub run-some : (s : State) (cs : List Call) → (rs : List Answer) × (e : State) × Run s cs rs e
+run-some s [] = ([], s, none)
+run-some s (c ∷ cs) =
+    let p = step-some s c in
+    let R = run-some (p .1) cs in
+    (p .0 ∷ R .0, R .1, next (p .2) (R .2))
+
+-- ---- and one only
 pub step-one : {s e f : State} {c : Call} {r q : Answer} → Step s e c r → Step s f c q → (r ≡ q) × (e ≡ f)
 step-one {s} {e} {f} (starts {m = m} {N = N} {tols = tols} {r = r} G t l k) (starts {r = q} H u w z) =
     let o = start-one m N tols r q G H in (ap started o, state-is (t ∙ ap (λ (r : Started). r .trace) o ∙ sym u) (l ∙ sym w) (k ∙ sym z))

@@ -37,7 +37,7 @@ pub record Sound (s : State) : Type 0 where
   pub setup : ((s .trace .levels ≡ 0) × (s .trace .held ≡ 0)) ⊎ (Sized (s .trace .levels) (s .trace .capacity) × Tolerances (s .trace .levels) (s .trace .tolerances))
 
 -- a state is its parts
-abbrev state : Trace → Buffers → List ℕ → State
+abbrev pub state : Trace → Buffers → List ℕ → State
 state a b ranks = record { trace = a; lent = b; ranks = ranks }
 
 pub state-is : {s : State} {a : Trace} {b : Buffers} {ranks : List ℕ} → s .trace ≡ a → s .lent ≡ b → s .ranks ≡ ranks → s ≡ state a b ranks

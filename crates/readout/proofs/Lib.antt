@@ -5,3 +5,4 @@ mod Down
 mod Count
 pub mod Unique
 pub mod Meaning
+pub mod Exists

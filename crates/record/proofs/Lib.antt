@@ -4,3 +4,4 @@ pub mod Pause
 pub mod Plain
 pub mod Bytes
 pub mod Examples
+pub mod Exactly

@@ -104,7 +104,7 @@ refused-one s n j k x y =
       | no m ↦ absurd (x .refused (record-one s _ j 0 (x .given) (y .before (x .at) (lt-of-not-le m))))
     ]
 
-records-one : (s : List ℕ) (n j k : ℕ) → RecordsGiven s n j → RecordsGiven s n k → j ≡ k
+pub records-one : (s : List ℕ) (n j k : ℕ) → RecordsGiven s n j → RecordsGiven s n k → j ≡ k
 records-one s n j k x y =
     ⊎-elim
     (λ a. ⊎-elim (refused-one s n j k a) (λ b. absurd (a .refused (record-one s _ j 0 (a .given) (b .0 (a .at) (a .below))))) y)

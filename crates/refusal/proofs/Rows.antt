@@ -84,6 +84,21 @@ first-taken p f = ⊎-elim (λ a. a .1) (λ a. absurd (a .0 p)) f
 pub first-passed : {num k : ℕ} {P R : Type 0} → (P → ⊥) → First num P (λ j. R) k → R
 first-passed n f = ⊎-elim (λ a. absurd (n (a .0))) (λ a. a .1) f
 
+-- a statement's number is given exactly when it holds, where the later ones do not give it
+pub first-is : {num k : ℕ} {P R : Type 0} → (R → k ≡ num → ⊥) → First num P (λ j. R) k → k ≡ num ↔ P
+first-is off f = (λ e. ⊎-elim (λ a. a .0) (λ a. absurd (off (a .1) e)) f, λ p. first-taken p f)
+
+-- past the last statement 0 is given exactly when it does not hold
+pub first-none : {num k : ℕ} {P : Type 0} → (num ≡ 0 → ⊥) → First num P (λ j. k ≡ 0) k → k ≡ 0 ↔ (P → ⊥)
+first-none some f = (λ e. ⊎-elim (λ a. absurd (some (sym (a .1) ∙ e))) (λ a. a .0) f, λ n. first-passed n f)
+
+-- and a later one's exactly when this one fails and that one's time has come: here this one refuses unless Q holds
+pub first-later : {num other k : ℕ} {Q R S : Type 0} (b : Bool) → Decides Q b → (num ≡ other → ⊥) → (R → k ≡ other ↔ S) → First num (Q → ⊥) (λ j. R) k → k ≡ other ↔ Q × S
+first-later b d apart later f = (
+  λ e. ⊎-elim (λ a. absurd (apart (sym (a .1) ∙ e))) (λ a. (not-refuted b d (a .0), later (a .1) .0 e)) f,
+  λ q. later (first-passed (λ n. n (q .0)) f) .1 (q .1),
+)
+
 -- what holds of the number of a statement, and of the number that the later ones give, holds of the number given
 pub first-has : {num k : ℕ} {P R : Type 0} (Q : ℕ → Type 0) → Q num → (R → Q k) → First num P (λ j. R) k → Q k
 first-has Q q more f = ⊎-elim (λ a. subst Q (sym (a .1)) q) (λ a. more (a .1)) f

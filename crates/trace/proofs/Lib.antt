@@ -5,5 +5,6 @@ pub mod Passed
 pub mod Exactly
 pub mod Calls
 pub mod Unique
+pub mod Exists
 pub mod Formulas
 pub mod Unread

@@ -1,0 +1,102 @@
+-- One theorem for each call: from every entry there is a result that its promise allows. Assumes nothing.
+use mathlib.Core.Path.{refl}
+use mathlib.Core.List.{List}
+use Prim.Native.Nat.{ℕ, _+_}
+use native.Mathlib.Omega.{arith}
+use lib.IntN.{ℤ}
+use lib.ListN.{length, set, replicate}
+use Rattle.refusal.specs.declared.Outcome.{Outcome}
+use Rattle.refusal.specs.declared.Outcome.the-variants.{Done, Refused}
+use Rattle.refusal.specs.Number.{code}
+use Rattle.refusal.proofs.Plain.{decided}
+use Rattle.geometry.proofs.Coordinate.{fewer}
+use Rattle.costs.specs.Costs.{named}
+use Rattle.costs.specs.Walk.{perm}
+use Rattle.costs.proofs.Perm.{perm-decided}
+use Rattle.costs.proofs.Exit.{rewritten-some}
+use Rattle.readout.specs.Read.{RanksRead}
+use Rattle.readout.proofs.Exists.{ranks-some}
+use Rattle.trace.specs.declared.Trace.{Trace}
+use Rattle.trace.specs.declared.Started.{Started}
+use Rattle.trace.specs.declared.Changed.{Changed}
+use Rattle.trace.specs.declared.Asked.{Asked}
+use Rattle.trace.specs.declared.Asked.the-variants as Asked
+use Rattle.trace.specs.declared.Levels.{Levels}
+use Rattle.trace.specs.Numbers.{StartNumber, AddNumber, CorrectNumber, AskNumber, ReadNumber}
+use Rattle.trace.specs.Calls.{emptyTrace, noTrace, StartGives, Buffers, buffers, holding, ChangeGives, AddGives, CorrectGives, AskGives, ReadGives}
+use Rattle.trace.specs.Rows.{setupOutcome, addOutcome, correctOutcome, askOutcome, readOutcome}
+use Rattle.trace.proofs.Numbers.{start-number, add-number, correct-number, ask-number, read-number}
+use Rattle.trace.proofs.Passed.{ask-passed, read-passed, in-range}
+use Rattle.trace.proofs.Calls.{done-refused, Able, add-able, correct-able, refused-gives, changed-gives}
+
+-- ---- start
+pub start-some : (m N : ℕ) (tols : List ℕ) → (r : Started) × StartGives m N tols r
+start-some m N tols = by (setupOutcome m N tols) (start-number m N tols)
+  where
+    by : (o : Outcome) → StartNumber m N tols (code o) → (r : Started) × StartGives m N tols r
+    by Done h = (record { outcome = Done; trace = emptyTrace m N tols }, record { number = h; done = λ d. refl; refused = λ w g. done-refused refl g })
+    by (Refused why) h = (record { outcome = Refused why; trace = noTrace }, record { number = h; done = λ d. done-refused d refl; refused = λ w g. refl })
+
+-- ---- add and correct: the outcome that the row of tests gives, and where it is Done the table after the call
+change-some : (Number : ℕ → Type 0) (a : Trace) (b : Buffers) (v n : ℕ) (x y : ℤ) → (Number 0 → Able a b v n x y) → (o : Outcome) → Number (code o)
+    → (r : Changed) × (e : Buffers) × ChangeGives Number a b v n x y r e
+change-some Number a b v n x y able (Refused why) h = (record { outcome = Refused why; trace = a; cells = 0 }, b, refused-gives h refl)
+change-some Number a b v n x y able Done h =
+    let A = able h in
+    let z = A .ready .sizes in
+    let xs = set (b .across) v x in
+    let ys = set (b .upward) v y in
+    let w = rewritten-some (a .capacity) (perm xs ys (a .tolerances)) (a .levels) v n (z .3) (z .4) (b .table) (A .ready .room) in (
+      record { outcome = Done; trace = holding a n; cells = named (a .levels) v n },
+      buffers xs ys (w .0),
+      changed-gives h A (record { outcome = refl; trace = refl; across = refl; upward = refl; cells = w .1; count = refl }),
+    )
+
+pub add-some : (a : Trace) (b : Buffers) (x y : ℤ) → (r : Changed) × (e : Buffers) × AddGives a b x y r e
+add-some a b x y =
+    change-some (AddNumber a (b .across) (b .upward) (b .table) x y) a b (a .held) (a .held + 1) x y (add-able a b x y)
+    (addOutcome a (b .across) (b .upward) (b .table) x y) (add-number a (b .across) (b .upward) (b .table) x y)
+
+pub correct-some : (a : Trace) (b : Buffers) (v : ℕ) (x y : ℤ) → (r : Changed) × (e : Buffers) × CorrectGives a b v x y r e
+correct-some a b v x y =
+    change-some (CorrectNumber a (b .across) (b .upward) (b .table) v x y) a b v (a .held) x y (correct-able a b v x y)
+    (correctOutcome a (b .across) (b .upward) (b .table) v x y) (correct-number a (b .across) (b .upward) (b .table) v x y)
+
+-- ---- ask
+pub ask-some : (a : Trace) (xs ys : List ℤ) (k i j : ℕ) → (r : Asked) × AskGives a xs ys k i j r xs ys
+ask-some a xs ys k i j = by (askOutcome a xs ys k i j) (ask-number a xs ys k i j)
+  where
+    by : (o : Outcome) → AskNumber a xs ys k i j (code o) → (r : Asked) × AskGives a xs ys k i j r xs ys
+    by (Refused why) h = (Asked.Refused why, record { number = h; says = tt; lent = (refl, refl) })
+    by Done h =
+        let p = ask-passed a xs ys k i j h in
+        let r = in-range (p .0) in
+        elim (decided (perm xs ys (a .tolerances) k i j) (perm-decided xs ys (a .tolerances) k i j (fewer (omega arith) (r .0)) (fewer (omega arith) (r .1)) (p .1))) [
+          | yes y ↦ (Asked.Yes, record { number = h; says = y; lent = (refl, refl) })
+          | no n ↦ (Asked.No, record { number = h; says = n; lent = (refl, refl) })
+        ]
+
+-- ---- read
+pub read-some : (a : Trace) (b : Buffers) (ranks : List ℕ) → (r : Levels) × (bytes : List ℕ) × ReadGives a b ranks r b bytes
+read-some a b ranks = by (readOutcome a (b .across) (b .upward) (b .table) (length ranks)) (read-number a (b .across) (b .upward) (b .table) ranks)
+  where
+    gives : ReadNumber a (b .across) (b .upward) (b .table) ranks 0 → (e per : List ℕ) (sum : ℕ) → RanksRead (b .table) (a .capacity) (a .levels) (a .held) ranks e per sum
+        → (r : Levels) × (bytes : List ℕ) × ReadGives a b ranks r b bytes
+    gives h e per sum R = (
+      record { outcome = Done; segments = per; total = sum },
+      e,
+      record { number = h; done = λ d. R; refused = λ w g. done-refused refl g; lent = refl },
+    )
+
+    by : (o : Outcome) → ReadNumber a (b .across) (b .upward) (b .table) ranks (code o) → (r : Levels) × (bytes : List ℕ) × ReadGives a b ranks r b bytes
+    by (Refused why) h = (
+      record { outcome = Refused why; segments = replicate 16 0; total = 0 },
+      ranks,
+      record { number = h; done = λ d. done-refused d refl; refused = λ w g. record { kept = refl; segments = refl; total = refl }; lent = refl },
+    )
+    by Done h =
+        let p = read-passed a (b .across) (b .upward) (b .table) ranks h in
+        let z = p .0 .sized in
+        let n = p .0 .held in
+        let w = ranks-some (b .table) (a .capacity) (a .levels) (a .held) (z .0) (z .1) (omega arith) (omega arith) (p .1 .cells) ranks (p .2) in
+        gives h (w .0) (w .1) (w .2) (w .3)
