@@ -11,13 +11,13 @@ use Rattle.refusal.specs.declared.Refusal.the-variants.{Setup, Tolerance, Buffe
 use Rattle.refusal.specs.declared.Outcome.{Outcome}
 use Rattle.refusal.specs.declared.Outcome.the-variants.{Done}
 use Rattle.refusal.specs.Number.{code}
-use Rattle.refusal.specs.Check.{unless, andThen, Decides, First}
+use Rattle.refusal.specs.Check.{Decides, First}
 use Rattle.refusal.proofs.Laws.{then-done}
 use Rattle.refusal.proofs.Rows.{first-one, Row, test-row, unless-row, then-row, row-number}
 use Rattle.geometry.specs.Coordinate.{Coord}
 use Rattle.trace.specs.declared.Trace.{Trace}
 use Rattle.trace.specs.Numbers.{LentSamples, LentTable, StoredSamples, StoredCells, SetupNumber, TraceNumber, Good, StartNumber, AddNumber, CorrectNumber, AskNumber, ReadNumber}
-use Rattle.trace.specs.Rows.{lentOk, sampleOk, setupOutcome, lentOutcome, traceOutcome, addOutcome, correctOutcome, askOutcome, readOutcome}
+use Rattle.trace.specs.Rows.{lentOk, setupOutcome, lentOutcome, traceOutcome, sampleOutcome, addOutcome, correctOutcome, askOutcome, readOutcome}
 use Rattle.trace.proofs.Decided.{setup-decided, tolerances-decided, lent-samples, lent-table, lent-ranks, samples-decided, stored-decided, sample-decided, there-decided, not-there, missed}
 use Rattle.trace.proofs.Checks.{lent-done}
 
@@ -46,8 +46,9 @@ held-within a xs ys t e = lent-done a (a .levels) (length xs) (length ys) (lengt
 
 -- a call with a new sample: 6, and then a test of its own, which may use that no more samples are held than there is room for
 sample-row : (a : Trace) (xs ys : List ℤ) (t : List ℕ) (x y : ℤ) (o : Outcome) {S : (ℕ → Type 0) → ℕ → Type 0} → (a .held ≤ a .capacity → Row o S)
-    → Row (andThen (traceOutcome a xs ys t (a .held)) (andThen (unless (sampleOk x y) Coordinate) o))
+    → Row (sampleOutcome a xs ys t x y o)
     (λ rest. TraceNumber a (LentSamples a xs ys × LentTable a t) (StoredSamples a xs ys × StoredCells a t) (First 6 (Coord x × Coord y → ⊥) (S rest)))
+unfolding sampleOutcome
 sample-row a xs ys t x y o own =
     then-row _ _ (trace-row a xs ys t (a .held) (lent-table a xs ys t)) (λ e. then-row _ _ (unless-row _ Coordinate (sample-decided x y)) (λ f. own (held-within a xs ys t e)))
 
@@ -56,7 +57,6 @@ pub start-number : (m N : ℕ) (tols : List ℕ) → StartNumber m N tols (code 
 start-number m N tols = row-number _ _ (setup-row m N tols)
 
 pub add-number : (a : Trace) (xs ys : List ℤ) (t : List ℕ) (x y : ℤ) → AddNumber a xs ys t x y (code (addOutcome a xs ys t x y))
-unfolding addOutcome
 add-number a xs ys t x y =
     row-number _ _
     (sample-row a xs ys t x y _
@@ -65,7 +65,6 @@ add-number a xs ys t x y =
     (λ b. omega (arith, ltb-false (a .held) (a .capacity) b))))
 
 pub correct-number : (a : Trace) (xs ys : List ℤ) (t : List ℕ) (v : ℕ) (x y : ℤ) → CorrectNumber a xs ys t v x y (code (correctOutcome a xs ys t v x y))
-unfolding correctOutcome
 correct-number a xs ys t v x y =
     row-number _ _ (sample-row a xs ys t x y _ (λ h. test-row _ Missing (λ b l. omega (arith, ltb-true v (a .held) b)) (ltb-false v (a .held))))
 

@@ -66,12 +66,16 @@ sampleOk x y = coordinateOk x && coordinateOk y
 unfoldable pub stretchOk : Trace → ℕ → ℕ → ℕ → Bool
 stretchOk a k i j = ltb i j && (ltb j (a .held) && from-to 1 (a .levels) k)
 
--- the row of each call
-unfoldable pub addOutcome : Trace → List ℤ → List ℤ → List ℕ → ℤ → ℤ → Outcome
-addOutcome a xs ys t x y = andThen (traceOutcome a xs ys t (a .held)) (andThen (unless (sampleOk x y) Coordinate) (unless (ltb (a .held) (a .capacity)) Full))
+-- 1 to 6 of a call with a new sample, and after them the call's last
+unfoldable pub sampleOutcome : Trace → List ℤ → List ℤ → List ℕ → ℤ → ℤ → Outcome → Outcome
+sampleOutcome a xs ys t x y last = andThen (traceOutcome a xs ys t (a .held)) (andThen (unless (sampleOk x y) Coordinate) last)
 
-unfoldable pub correctOutcome : Trace → List ℤ → List ℤ → List ℕ → ℕ → ℤ → ℤ → Outcome
-correctOutcome a xs ys t v x y = andThen (traceOutcome a xs ys t (a .held)) (andThen (unless (sampleOk x y) Coordinate) (unless (ltb v (a .held)) Missing))
+-- the row of each call
+abbrev pub addOutcome : Trace → List ℤ → List ℤ → List ℕ → ℤ → ℤ → Outcome
+addOutcome a xs ys t x y = sampleOutcome a xs ys t x y (unless (ltb (a .held) (a .capacity)) Full)
+
+abbrev pub correctOutcome : Trace → List ℤ → List ℤ → List ℕ → ℕ → ℤ → ℤ → Outcome
+correctOutcome a xs ys t v x y = sampleOutcome a xs ys t x y (unless (ltb v (a .held)) Missing)
 
 unfoldable pub askOutcome : Trace → List ℤ → List ℤ → ℕ → ℕ → ℕ → Outcome
 askOutcome a xs ys k i j = andThen (lentOutcome a 0 (length xs) (length ys) 0 (a .held)) (andThen (unless (samplesOk a xs ys) Stored) (unless (stretchOk a k i j) Missing))

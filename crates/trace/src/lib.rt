@@ -3,7 +3,7 @@ ghost use mathlib.Core.Path.{_≡_};
 ghost use Prim.Native.Nat.{_*_, _≤_};
 ghost use lib.ListN.{length};
 ghost use Rattle.trace.specs.Calls.{buffers, kept, StartGives, AddGives, CorrectGives, AskGives, ReadGives};
-ghost use Rattle.trace.specs.Rows.{setupOk, tolerancesOk, setupOutcome, lentOk, lentOutcome, samplesOk, storedOk, sampleOk, stretchOk, traceOutcome, addOutcome, correctOutcome, askOutcome, readOutcome, Ready, Changes};
+ghost use Rattle.trace.specs.Rows.{setupOk, tolerancesOk, setupOutcome, lentOk, lentOutcome, samplesOk, storedOk, sampleOk, stretchOk, traceOutcome, sampleOutcome, askOutcome, readOutcome, Ready, Changes};
 use geometry::coordinate_ok;
 use geometry::coordinates_ok;
 use refusal::Outcome;
@@ -220,32 +220,21 @@ impl Trace {
         unless(self.stored_ok(xs, ys, table), Refusal::Stored)
     }
 
-    // Refusals 1 to 7.
-    fn add_outcome(self, xs: &[i16], ys: &[i16], table: &[u16], x: i16, y: i16) -> Outcome
-        ensures { λ r. ⌜ r ≡ addOutcome self (now (xs .entry)) (now (ys .entry)) (now (table .entry)) x y ⌝ }
-    {
-        let o = self.trace_outcome(xs, ys, table, self.held);
-        let sample = unless(sample_ok(x, y), Refusal::Coordinate);
-        let room = unless(self.held < self.capacity, Refusal::Full);
-        and_then(o, and_then(sample, room))
-    }
-
-    // Refusals 1 to 6 and 8.
-    fn correct_outcome(
+    // Refusals 1 to 6 of a call with a new sample, and after them the call's last.
+    fn sample_outcome(
         self,
         xs: &[i16],
         ys: &[i16],
         table: &[u16],
-        v: usize,
         x: i16,
         y: i16,
+        last: Outcome,
     ) -> Outcome
-        ensures { λ r. ⌜ r ≡ correctOutcome self (now (xs .entry)) (now (ys .entry)) (now (table .entry)) v x y ⌝ }
+        ensures { λ r. ⌜ r ≡ sampleOutcome self (now (xs .entry)) (now (ys .entry)) (now (table .entry)) x y last ⌝ }
     {
         let o = self.trace_outcome(xs, ys, table, self.held);
         let sample = unless(sample_ok(x, y), Refusal::Coordinate);
-        let there = unless(v < self.held, Refusal::Missing);
-        and_then(o, and_then(sample, there))
+        and_then(o, and_then(sample, last))
     }
 
     // Refusals 1 to 5, without a table, and 8.
@@ -332,7 +321,8 @@ impl Trace {
     pub fn add(self, xs: &mut [i16], ys: &mut [i16], table: &mut [u16], x: i16, y: i16) -> Changed
         ensures { λ r. ⌜ AddGives self (buffers (now (xs .entry)) (now (ys .entry)) (now (table .entry))) x y r (buffers (now (xs .exit)) (now (ys .exit)) (now (table .exit))) ⌝ }
     {
-        let o = self.add_outcome(xs, ys, table, x, y);
+        let room = unless(self.held < self.capacity, Refusal::Full);
+        let o = self.sample_outcome(xs, ys, table, x, y, room);
         let Outcome::Done = o else {
             return Changed {
                 outcome: o,
@@ -356,7 +346,8 @@ impl Trace {
     ) -> Changed
         ensures { λ r. ⌜ CorrectGives self (buffers (now (xs .entry)) (now (ys .entry)) (now (table .entry))) v x y r (buffers (now (xs .exit)) (now (ys .exit)) (now (table .exit))) ⌝ }
     {
-        let o = self.correct_outcome(xs, ys, table, v, x, y);
+        let there = unless(v < self.held, Refusal::Missing);
+        let o = self.sample_outcome(xs, ys, table, x, y, there);
         let Outcome::Done = o else {
             return Changed {
                 outcome: o,

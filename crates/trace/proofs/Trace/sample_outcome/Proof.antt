@@ -1,9 +1,9 @@
--- `trace::Trace::correct_outcome` meets its contract. Assumes nothing.
+-- `trace::Trace::sample_outcome` meets its contract. Assumes nothing.
 use Rattle.algebra.proofs.Signed.{handed₂}
-use Rattle.trace.specs.Rows.{sampleOk, correctOutcome}
+use Rattle.trace.specs.Rows.{sampleOk, sampleOutcome}
 use borrow.Author.Needs.{needs}
-use Rattle.trace.proofs.Trace.correct_outcome.Statement.{statement}
-use Rattle.trace.proofs.Trace.correct_outcome.Tie as tie
+use Rattle.trace.proofs.Trace.sample_outcome.Statement.{statement}
+use Rattle.trace.proofs.Trace.sample_outcome.Tie as tie
 
 trace-outcome-requires : tie.Need-trace-outcome-requires
 trace-outcome-requires c κs = search needs
@@ -14,9 +14,6 @@ sample-ok-requires c κs = search needs
 unless-requires : tie.Need-unless-requires
 unless-requires c κs = search needs
 
-unless-requires-2 : tie.Need-unless-requires-2
-unless-requires-2 c κs = search needs
-
 and-then-requires : tie.Need-and-then-requires
 and-then-requires c κs = search needs
 
@@ -24,23 +21,21 @@ and-then-requires-2 : tie.Need-and-then-requires-2
 and-then-requires-2 c κs = search needs
 
 returns : tie.Need-returns
-unfolding correctOutcome
+unfolding sampleOutcome
 returns c =
-    let w = c .before .before in
-    let u = w .before .before in
+    let u = c .before .before in
     let d = u .before in
     let s = d .before .before .before in
     let h = handed₂ sampleOk (s .args .x) (s .args .y) (s .fits .x) (s .fits .y) (d .sample-ok .ensures) in
-    rw (c .and-then2 .ensures, c .before .and-then .ensures, w .unless2 .ensures, u .unless .ensures, h, d .before .trace-outcome .ensures)
+    rw (c .and-then2 .ensures, c .before .and-then .ensures, u .unless .ensures, h, d .before .trace-outcome .ensures)
 
-pub correct-outcome-spec : {M : Type 1} → statement M
-correct-outcome-spec =
+pub sample-outcome-spec : {M : Type 1} → statement M
+sample-outcome-spec =
     tie.close
     (tie.spec
     trace-outcome-requires
     sample-ok-requires
     unless-requires
-    unless-requires-2
     and-then-requires
     and-then-requires-2
     returns)
