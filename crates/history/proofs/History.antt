@@ -15,6 +15,7 @@ use Rattle.trace.specs.declared.Started.{Started}
 use Rattle.trace.specs.declared.Changed.{Changed}
 use Rattle.trace.specs.declared.Levels.{Levels}
 use Rattle.trace.specs.Calls.{Put, holding}
+use Rattle.trace.proofs.Calls.{buffers-is}
 use Rattle.trace.proofs.Exists.{start-some, add-some, correct-some, ask-some, read-some}
 use Rattle.trace.proofs.Unique.{start-one, add-one, correct-one, ask-one, read-one}
 use Rattle.history.specs.Run.{State, Call, Answer, Step, Run, answered}
@@ -23,7 +24,7 @@ use Rattle.history.specs.Run.Answer.{started, changed, said, levels}
 use Rattle.history.specs.Run.Step.{starts, adds, corrects, asks, reads}
 use Rattle.history.specs.Run.Run.{none, next}
 use Rattle.history.specs.Hold.{CostsHeld, Shown, Touched, MayChange, RefusedLeaves, heldAfter, onTrace, allOnTrace}
-use Rattle.history.proofs.Sound.{Sound, state, state-is, lent-is, not-put, started-sound, step-sound}
+use Rattle.history.proofs.Sound.{Sound, state, state-is, not-put, started-sound, step-sound}
 use Rattle.history.proofs.Follows.{sound-shown, Possible, step-number, bare-number}
 
 run-sound : {s e : State} {cs : List Call} {rs : List Answer} → Sound s → Run s cs rs e → Sound e
@@ -84,7 +85,7 @@ step-changes {s} {e} (adds {x = x} {y = y} {r = r} G t k) =
     (λ w h. not-touched s e (s .trace .held) (s .trace .held + 1) (not-put (G .refused w h) t k))
 step-changes {s} {e} (corrects {v = v} {x = x} {y = y} {r = r} G t k) =
     by-outcome (r .outcome) (λ d. put-touched s e v (s .trace .held) x y r (G .done d) t k) (λ w h. not-touched s e v (s .trace .held) (not-put (G .refused w h) t k))
-step-changes (asks G t l k) = state-is l (lent-is (G .lent .0) (G .lent .1) t) k
+step-changes (asks G t l k) = state-is l (buffers-is (G .lent .0) (G .lent .1) t) k
 step-changes {s} {e} (reads {r = r} G t) =
     by-outcome (r .outcome) (λ d. record { trace = t; lent = G .lent; places = G .done d .same; ranks = G .done d .other })
     (λ w h. let z : e .ranks ≡ s .ranks = G .refused w h .kept in record { trace = t; lent = G .lent; places = rw z refl; ranks = λ x l. rw z refl })
@@ -94,7 +95,7 @@ pub refused-keeps : {s e : State} {c : Call} {r : Answer} → Step s e c r → (
 refused-keeps (starts {r = r} G t l k) n = by-outcome (r .outcome) (λ d. absurd (n (ap code d))) (λ w h. (t ∙ G .refused w h, l, k))
 refused-keeps (adds {r = r} G t k) n = by-outcome (r .outcome) (λ d. absurd (n (ap code d))) (λ w h. not-put (G .refused w h) t k)
 refused-keeps (corrects {r = r} G t k) n = by-outcome (r .outcome) (λ d. absurd (n (ap code d))) (λ w h. not-put (G .refused w h) t k)
-refused-keeps (asks G t l k) n = state-is l (lent-is (G .lent .0) (G .lent .1) t) k
+refused-keeps (asks G t l k) n = state-is l (buffers-is (G .lent .0) (G .lent .1) t) k
 refused-keeps (reads {r = r} G t) n = by-outcome (r .outcome) (λ d. absurd (n (ap code d))) (λ w h. state-is t (G .lent) (G .refused w h .kept))
 
 -- only start and add change how many samples are held
@@ -154,7 +155,7 @@ step-one {s} {e} {f} (corrects {v = v} {x = x} {y = y} {r = r} G t k) (corrects 
     let o = correct-one (s .trace) (s .lent) v x y r q (e .lent) (f .lent) G H in (ap changed (o .0), state-is (t ∙ ap (λ (r : Changed). r .trace) (o .0) ∙ sym u) (o .1) (k ∙ sym z))
 step-one {s} {e} {f} (asks {k = l} {i = i} {j = j} {r = r} G b t k) (asks {r = q} H d u z) =
     let o = ask-one (s .trace) (s .lent .across) (s .lent .upward) l i j r q (e .lent .across) (f .lent .across) (e .lent .upward) (f .lent .upward) G H in
-    (ap said (o .0), state-is (t ∙ sym u) (lent-is (o .1) (o .2) (b ∙ sym d)) (k ∙ sym z))
+    (ap said (o .0), state-is (t ∙ sym u) (buffers-is (o .1) (o .2) (b ∙ sym d)) (k ∙ sym z))
 step-one {s} {e} {f} (reads {r = r} G t) (reads {r = q} H u) =
     let o = read-one (s .trace) (s .lent) (s .ranks) r q (e .lent) (f .lent) (e .ranks) (f .ranks) G H in (ap levels (o .0), state-is (t ∙ sym u) (o .1) (o .2))
 

@@ -20,7 +20,7 @@ use Rattle.trace.specs.declared.Changed.{Changed}
 use Rattle.trace.specs.Numbers.{Sized, Tolerances, AddNumber, CorrectNumber}
 use Rattle.trace.specs.Calls.{Buffers, Put, NotPut, buffers, kept}
 use Rattle.trace.proofs.Passed.{Passed, start-passed, add-passed, correct-passed}
-use Rattle.trace.proofs.Calls.{Able, add-able, correct-able, put-rewritten}
+use Rattle.trace.proofs.Calls.{Able, add-able, correct-able, put-rewritten, buffers-is}
 use Rattle.history.specs.Run.{State, Call, Answer, Step}
 use Rattle.history.specs.Run.Call.{start}
 use Rattle.history.specs.Run.Step.{starts, adds, corrects, asks, reads}
@@ -42,9 +42,6 @@ state a b ranks = record { trace = a; lent = b; ranks = ranks }
 
 pub state-is : {s : State} {a : Trace} {b : Buffers} {ranks : List ℕ} → s .trace ≡ a → s .lent ≡ b → s .ranks ≡ ranks → s ≡ state a b ranks
 state-is {s} {a} {b} {ranks} p q u = let f : state (s .trace) (s .lent) (s .ranks) ≡ state a b ranks = cc in f
-
-pub lent-is : {b : Buffers} {xs ys : List ℤ} {t : List ℕ} → b .across ≡ xs → b .upward ≡ ys → b .table ≡ t → b ≡ buffers xs ys t
-lent-is {b} {xs} {ys} {t} p q u = let f : buffers (b .across) (b .upward) (b .table) ≡ buffers xs ys t = cc in f
 
 pub not-put : {s e : State} {r : Changed} → NotPut (s .trace) (s .lent) r (e .lent) → e .trace ≡ r .trace → e .ranks ≡ s .ranks → e ≡ s
 not-put P t k = state-is (t ∙ P .trace) (P .lent) k
@@ -100,7 +97,7 @@ put-sound s e v n x y r p A costs P t =
     let b = s .lent in
     let R = A .ready in
     let z = R .sizes in
-    subst Sound (sym (state-is (t ∙ P .trace) (lent-is (P .across) (P .upward) refl) refl)) (record {
+    subst Sound (sym (state-is (t ∙ P .trace) (buffers-is (P .across) (P .upward) refl) refl)) (record {
       few = z .1;
       small = z .2;
       held = z .4;
@@ -138,7 +135,7 @@ step-sound {s} {e} S (adds {x = x} {y = y} {r = r} G t k) =
     by-outcome (r .outcome) (λ d. add-sound s e S x y r t (rw d at (G .number)) (G .done d)) (λ w h. subst Sound (sym (not-put (G .refused w h) t k)) S)
 step-sound {s} {e} S (corrects {v = v} {x = x} {y = y} {r = r} G t k) =
     by-outcome (r .outcome) (λ d. correct-sound s e S x y r t v (rw d at (G .number)) (G .done d)) (λ w h. subst Sound (sym (not-put (G .refused w h) t k)) S)
-step-sound S (asks G t l k) = subst Sound (sym (state-is l (lent-is (G .lent .0) (G .lent .1) t) k)) S
+step-sound S (asks G t l k) = subst Sound (sym (state-is l (buffers-is (G .lent .0) (G .lent .1) t) k)) S
 step-sound S (reads G t) = subst Sound (sym (state-is t (G .lent) refl)) (record {
   few = S .few;
   small = S .small;

@@ -3,25 +3,17 @@ use mathlib.Core.Path.{_≡_, refl, sym, subst, _∙_}
 use mathlib.Core.Logic.{_↔_, _⊎_, inl, inr, ⊎-elim}
 use mathlib.Core.Bool.{_&&_}
 use mathlib.Core.List.{List}
-use Prim.Native.Nat.{ℕ, _*_, _/_, _%_, _<_}
+use Prim.Native.Nat.{ℕ, _*_, _/_, _<_}
 use native.Mathlib.Omega.{arith}
 use lib.ListN.{length}
 use Rattle.refusal.specs.Check.{Decides}
 use Rattle.refusal.proofs.Plain.{by-equal, both-decided}
 use Rattle.refusal.proofs.Rows.{first-passed, first-is, first-none, first-later, first-has}
-use Rattle.geometry.specs.Coordinate.{Coord, coordinateOk}
+use Rattle.geometry.specs.Coordinate.{coordinateOk}
 use Rattle.geometry.proofs.Coordinate.{coordinate-decided}
-use Rattle.record.specs.Record.{across, up, rank}
-use Rattle.record.specs.Plain.{SpareSet, RecordGiven, DecodeGiven, FirstRefused, RecordsGiven, FileGiven}
+use Rattle.record.specs.Record.{across, up}
+use Rattle.record.specs.Plain.{Placed, Marred, RecordGiven, DecodeGiven, FirstRefused, RecordsGiven, Misfit, FileGiven}
 use Rattle.record.proofs.Plain.{records-one}
-
--- both coordinates of the record at place p are in range
-abbrev pub Placed : List ℕ → ℕ → Type 0
-Placed s p = Coord (across s p) × Coord (up s p)
-
--- its rank is above 16, or a spare byte is not zero
-abbrev pub Marred : List ℕ → ℕ → Type 0
-Marred s p = (16 < rank s p) ⊎ SpareSet s p
 
 placed-decided : (s : List ℕ) (p : ℕ) → Decides (Placed s p) (coordinateOk (across s p) && coordinateOk (up s p))
 placed-decided s p = both-decided _ _ (coordinate-decided (across s p)) (coordinate-decided (up s p))
@@ -53,11 +45,8 @@ decode-rows s h =
     }
 
 -- ---- a file
--- not a multiple of 16 bytes, or more than 4,096 records
-abbrev pub Misfit : List ℕ → Type 0
-Misfit s = (length s % 16 ≡ 0 → ⊥) ⊎ (4096 < length s / 16)
-
 pub record FileRows (s : List ℕ) (k : ℕ) : Type 0 where
+  -- not a multiple of 16 bytes, or more than 4,096 records
   pub row-10 : k ≡ 10 ↔ Misfit s
   -- 6 or 11: the number of the first record, in file order, that is refused
   pub row-first : (num : ℕ) → (num ≡ 10 → ⊥) → (num ≡ 0 → ⊥) → k ≡ num ↔ (Misfit s → ⊥) × FirstRefused s (length s / 16) num

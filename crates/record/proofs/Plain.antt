@@ -3,7 +3,7 @@ use mathlib.Core.Path.{_≡_, refl, sym, subst, _∙_}
 use mathlib.Core.Logic.{_⊎_, inl, inr, ⊎-elim}
 use mathlib.Core.Bool.{true, false}
 use mathlib.Core.List.{List}
-use Prim.Native.Nat.{ℕ, zero, suc, _+_, _*_, _/_, _%_, _<_}
+use Prim.Native.Nat.{ℕ, zero, suc, _+_, _*_, _/_, _%_}
 use native.Mathlib.Nat.{not-suc-le-zero, le-of-suc-le-suc, eq-or-lt-of-le, not-le-of-lt, lt-of-not-le}
 use native.Mathlib.Decide.{decLe}
 use native.Mathlib.Omega.{arith}
@@ -22,7 +22,7 @@ use Rattle.geometry.specs.Coordinate.{coordinateOk}
 use Rattle.geometry.proofs.Coordinate.{coordinate-decided}
 use Rattle.record.specs.Record.{across, up, rank, spareOk, recordOutcome, decodeOutcome, decodeOf}
 use Rattle.record.specs.Pause.{fileLengthOk, recordsOutcome, fileOutcome, pauseLineOf}
-use Rattle.record.specs.Plain.{SpareSet, RecordGiven, DecodeGiven, FirstRefused, RecordsGiven, FileGiven}
+use Rattle.record.specs.Plain.{SpareSet, Marred, RecordGiven, DecodeGiven, FirstRefused, RecordsGiven, FileGiven}
 use Rattle.record.proofs.Record.{decode-outcome}
 use Rattle.record.proofs.Pause.{line-outcome}
 
@@ -39,7 +39,7 @@ pub record-given : (s : List ℕ) (p : ℕ) → RecordGiven s p (code (recordOut
 unfolding recordOutcome
 record-given s p =
     let d = both-decided (coordinateOk (across s p)) (coordinateOk (up s p)) (coordinate-decided (across s p)) (coordinate-decided (up s p)) in
-    first-row _ Coordinate _ (First 11 ((16 < rank s p) ⊎ SpareSet s p) (λ k. k ≡ 0)) (λ e n. n (d .right e)) (d .wrong)
+    first-row _ Coordinate _ (First 11 (Marred s p) (λ k. k ≡ 0)) (λ e n. n (d .right e)) (d .wrong)
     (first-row _ Record Done (λ k. k ≡ 0)
     (λ e. ⊎-elim (λ l. not-le-of-lt l (leb-true (rank s p) 16 (and-left _ (spareOk s p) e))) (spare-right s p (and-right (leb (rank s p) 16) _ e)))
     (λ e. ⊎-elim (λ t. inl (leb-false (rank s p) 16 t)) (λ t. inr (spare-wrong s p t)) (and-fails (leb (rank s p) 16) (spareOk s p) e))
@@ -87,8 +87,8 @@ file-given s =
 -- ---- the plain statements leave no choice: two numbers that one of them gives are equal
 record-one : (s : List ℕ) (p j k : ℕ) → RecordGiven s p j → RecordGiven s p k → j ≡ k
 record-one s p =
-    first-one 6 _ (First 11 ((16 < rank s p) ⊎ SpareSet s p) (λ k. k ≡ 0))
-    (first-one 11 ((16 < rank s p) ⊎ SpareSet s p) (λ k. k ≡ 0) (λ j k x y. x ∙ sym y))
+    first-one 6 _ (First 11 (Marred s p) (λ k. k ≡ 0))
+    (first-one 11 (Marred s p) (λ k. k ≡ 0) (λ j k x y. x ∙ sym y))
 
 pub decode-one : (s : List ℕ) (j k : ℕ) → DecodeGiven s j → DecodeGiven s k → j ≡ k
 decode-one s = first-one 10 _ (RecordGiven s 0) (record-one s 0)

@@ -14,9 +14,16 @@ pub record SpareSet (s : List ℕ) (p : ℕ) : Type 0 where
   pub spare : at < 7
   pub set : getD s (p + 9 + at) 0 ≡ 0 → ⊥
 
--- the record at place p: 6 for a coordinate out of range, 11 for a rank above 16 or a spare byte not zero, else 0
+-- both its coordinates are in range; its rank is above 16 or a spare byte is not zero
+abbrev pub Placed : List ℕ → ℕ → Type 0
+Placed s p = Coord (across s p) × Coord (up s p)
+
+abbrev pub Marred : List ℕ → ℕ → Type 0
+Marred s p = (16 < rank s p) ⊎ SpareSet s p
+
+-- the number that it is given, 0 for none
 abbrev pub RecordGiven : List ℕ → ℕ → ℕ → Type 0
-RecordGiven s p = First 6 (Coord (across s p) × Coord (up s p) → ⊥) (First 11 ((16 < rank s p) ⊎ SpareSet s p) (λ k. k ≡ 0))
+RecordGiven s p = First 6 (Placed s p → ⊥) (First 11 (Marred s p) (λ k. k ≡ 0))
 
 -- one record alone: 10 where it is not of 16 bytes
 abbrev pub DecodeGiven : List ℕ → ℕ → Type 0
@@ -34,6 +41,10 @@ pub record FirstRefused (s : List ℕ) (n k : ℕ) : Type 0 where
 abbrev pub RecordsGiven : List ℕ → ℕ → ℕ → Type 0
 RecordsGiven s n k = FirstRefused s n k ⊎ (((i : ℕ) → i < n → RecordGiven s (16 * i) 0) × (k ≡ 0))
 
--- a file: 10 where it is not a multiple of 16 bytes or has more than 4,096 records, then its records
+-- a file is not a multiple of 16 bytes, or has more than 4,096 records
+abbrev pub Misfit : List ℕ → Type 0
+Misfit s = (length s % 16 ≡ 0 → ⊥) ⊎ (4096 < length s / 16)
+
+-- it is given 10 there, and else as its records say
 abbrev pub FileGiven : List ℕ → ℕ → Type 0
-FileGiven s = First 10 ((length s % 16 ≡ 0 → ⊥) ⊎ (4096 < length s / 16)) (RecordsGiven s (length s / 16))
+FileGiven s = First 10 (Misfit s) (RecordsGiven s (length s / 16))

@@ -1,6 +1,5 @@
 -- What is worked out for each kind of starred case, by tests and least sums, and that the case then holds. Assumes nothing.
-use mathlib.Core.Path.{_≡_, refl, sym, _∙_, ap₂}
-use mathlib.Core.Logic.{_↔_, _⊎_, inl, inr}
+use mathlib.Core.Path.{_≡_, refl, sym, subst, _∙_, ap₂}
 use mathlib.Core.Bool.{Bool, true, false, _&&_}
 use mathlib.Core.List.{List, [], _∷_}
 use Prim.Native.Nat.{ℕ, zero, suc, _+_, _-_, _*_, _≤_, _<_, zero-le}
@@ -26,6 +25,10 @@ use Rattle.family.proofs.Ranks.{readout}
 use Rattle.costs.specs.Walk.{perm}
 use Rattle.costs.proofs.Perm.{perm-adjacent}
 use Rattle.costs.proofs.Meaning.{permissions}
+use Rattle.trace.specs.Numbers.{ReadNumber}
+use Rattle.trace.proofs.Numbers.{read-number}
+use Rattle.trace.proofs.Passed.{Passed, PassedTable}
+use Rattle.trace.proofs.Exactly.{read-rows}
 use Rattle.starred.specs.Cases.{Sample, across, upward, PermitOf, listed, Ranked, Case, permitted, not-permitted, serves, ranked, costs, two-samples, one-sample, paused, Holds, All}
 
 -- the test of a stretch
@@ -131,22 +134,22 @@ two a b tols few =
     } in
     all-ranks s tols F (length tols ∷ length tols ∷ []) (length tols) (ap₂ (λ (x y : ℕ). x ∷ y ∷ []) (R .first) (R .last)) (two-total (read s tols) (length tols) (omega (arith, R .last)))
 
--- a row of statements, past one that does not hold and at one that does
-skip : {A P Q S : Type 0} → (P → ⊥) → Q ↔ S → ((P × A) ⊎ ((P → ⊥) × Q)) ↔ S
-skip n e = (λ f. elim f [ inl t ↦ absurd (n (t .0)) | inr t ↦ e .0 (t .1) ], λ x. inr (n, e .1 x))
-
-stop : {A P Q : Type 0} → P → ((P × A) ⊎ ((P → ⊥) × Q)) ↔ A
-stop p = (λ f. elim f [ inl t ↦ t .1 | inr t ↦ absurd (t .0 p) ], λ x. inl (p, x))
-
+-- one sample: row 9 of a read, and what the row of tests gives is that number
 one : Holds (one-sample 9)
 one a xs ys t rank H k =
     let e : a .held ≡ 1 = H .one in
     let s = H .sized in
-    skip (λ n. n s) (skip (λ n. n (H .tolerances))
-    (skip (λ n. n (H .lent .0, H .lent .1, omega (arith, H .lent .2)))
-    (skip (λ n. omega (arith, s .2))
-    (skip (λ n. n ((λ q h. let f : q ≡ 0 = omega arith in rw f (H .sample)), λ ℓ i j u v o h. absurd (omega arith)))
-    (stop (omega arith))))))
+    let P : Passed a xs ys = record {
+      sized = s;
+      tolerances = H .tolerances;
+      lent = H .lent .0;
+      held = omega (arith, s .2);
+      stored = λ q h. let f : q ≡ 0 = omega arith in rw f (H .sample);
+    } in
+    let Q : PassedTable a t = record { room = H .lent .1; cells = λ ℓ i j u v o h. absurd (omega arith) } in
+    let nine : (n : ℕ) → ReadNumber a xs ys t rank n → n ≡ 9 = λ n h. read-rows a xs ys t rank h .row-9 .1 ((P, Q, omega (arith, H .lent .2)), omega arith) in
+    let r = read-number a xs ys t rank in
+    (nine k, λ g. subst (ReadNumber a xs ys t rank) (nine _ r ∙ sym g) r)
 
 -- what is worked out for a case
 abbrev pub Worked : Case → Type 0

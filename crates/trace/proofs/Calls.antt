@@ -1,5 +1,6 @@
 -- From what the checks answer, and what a change of a sample leaves, to what a call gives: on plain data. Assumes nothing.
 use mathlib.Core.Path.{_≡_, refl, sym, ap, _∙_}
+use mathlib.Core.List.{List}
 use Prim.Native.Nat.{ℕ, _+_, _≤_, _<_}
 use native.Mathlib.Omega.{arith}
 use lib.IntN.{ℤ}
@@ -18,7 +19,7 @@ use Rattle.costs.proofs.Exit.{earlier}
 use Rattle.trace.specs.declared.Trace.{Trace}
 use Rattle.trace.specs.declared.Changed.{Changed}
 use Rattle.trace.specs.Numbers.{AddNumber, CorrectNumber}
-use Rattle.trace.specs.Calls.{Buffers, Put, ChangeGives}
+use Rattle.trace.specs.Calls.{Buffers, buffers, Put, ChangeGives}
 use Rattle.trace.specs.Rows.{Ready, Changes}
 use Rattle.trace.proofs.Passed.{add-passed, correct-passed, add-ready, correct-ready}
 use Rattle.costs.proofs.Meaning.{rewritten-cells, cells-rewritten}
@@ -26,6 +27,10 @@ use Rattle.costs.proofs.Meaning.{rewritten-cells, cells-rewritten}
 -- no call is both carried out and refused
 pub done-refused : {A : Type 0} {o : Outcome} {why : Refusal} → o ≡ Done → o ≡ Refused why → A
 done-refused {why = why} h g = absurd (numbered why (ap code (sym g ∙ h)))
+
+-- buffers are their parts
+pub buffers-is : {b : Buffers} {xs ys : List ℤ} {t : List ℕ} → b .across ≡ xs → b .upward ≡ ys → b .table ≡ t → b ≡ buffers xs ys t
+buffers-is {b} {xs} {ys} {t} p q u = let f : buffers (b .across) (b .upward) (b .table) ≡ buffers xs ys t = cc in f
 
 -- what is known where the change of sample v, of n samples after it, is not refused: all that it asks, and that the cells of stretches without v pass check 5
 pub record Able (a : Trace) (b : Buffers) (v n : ℕ) (x y : ℤ) : Type 0 where

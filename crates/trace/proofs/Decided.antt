@@ -17,7 +17,7 @@ use Rattle.geometry.specs.Coordinate.{Coord}
 use Rattle.geometry.proofs.Coordinate.{coordinate-decided, coordinates-decided}
 use Rattle.table.proofs.Check.{cells-decided}
 use Rattle.trace.specs.declared.Trace.{Trace}
-use Rattle.trace.specs.Numbers.{Sized, Tolerances, LentSamples, LentTable, StoredSamples, StoredCells}
+use Rattle.trace.specs.Numbers.{Sized, Tolerances, LentSamples, LentTable, StoredSamples, StoredCells, Absent}
 use Rattle.trace.specs.Rows.{before, toleranceOk, setupOk, tolerancesOk, lentOk, samplesOk, storedOk, sampleOk, stretchOk}
 
 pub setup-decided : (m N : ℕ) → Decides (Sized m N) (setupOk m N)
@@ -76,22 +76,19 @@ pub sample-decided : (x y : ℤ) → Decides (Coord x × Coord y) (sampleOk x y)
 unfolding sampleOk
 sample-decided x y = both-decided _ _ (coordinate-decided x) (coordinate-decided y)
 
--- ---- the stretch i to j of n samples and the level k of m, which are there or not
-abbrev pub There : ℕ → ℕ → ℕ → ℕ → ℕ → Type 0
-There n m k i j = (i < j) × (j < n) × (1 ≤ k) × (k ≤ m)
+-- ---- a stretch and a level that are there: the opposite of `Absent`
+abbrev pub There : Trace → ℕ → ℕ → ℕ → Type 0
+There a k i j = (i < j) × (j < a .held) × (1 ≤ k) × (k ≤ a .levels)
 
-abbrev pub NotThere : ℕ → ℕ → ℕ → ℕ → ℕ → Type 0
-NotThere n m k i j = (j ≤ i) ⊎ (n ≤ j) ⊎ (k < 1) ⊎ (m < k)
-
-pub there-decided : (a : Trace) (k i j : ℕ) → Decides (There (a .held) (a .levels) k i j) (stretchOk a k i j)
+pub there-decided : (a : Trace) (k i j : ℕ) → Decides (There a k i j) (stretchOk a k i j)
 unfolding stretchOk
 there-decided a k i j =
     carry (λ p. (p .0, p .1 .0, p .1 .1 .0, p .1 .1 .1)) (λ p. (p .0, (p .1, (p .2, p .3))))
     (both-decided _ _ (by-less i j) (both-decided _ _ (by-less j (a .held)) (from-to-decided 1 (a .levels) k)))
 
-pub not-there : (a : Trace) (k i j : ℕ) → stretchOk a k i j ≡ false → NotThere (a .held) (a .levels) k i j
+pub absent : (a : Trace) (k i j : ℕ) → stretchOk a k i j ≡ false → Absent a k i j
 unfolding stretchOk
-not-there a k i j e =
+absent a k i j e =
     ⊎-elim
     (λ t. inl (ltb-false i j t))
     (λ t. inr (⊎-elim
@@ -100,14 +97,14 @@ not-there a k i j e =
     (and-fails _ _ t)))
     (and-fails _ _ e)
 
-pub missed : {n m k i j : ℕ} → NotThere n m k i j → There n m k i j → ⊥
-missed (inl h) s = omega arith
-missed (inr (inl h)) s = omega arith
-missed (inr (inr (inl h))) s = omega arith
-missed (inr (inr (inr h))) s = omega arith
+pub not-both : (a : Trace) (k i j : ℕ) → Absent a k i j → There a k i j → ⊥
+not-both a k i j (inl h) s = omega arith
+not-both a k i j (inr (inl h)) s = omega arith
+not-both a k i j (inr (inr (inl h))) s = omega arith
+not-both a k i j (inr (inr (inr h))) s = omega arith
 
-pub there : {n m k i j : ℕ} → (NotThere n m k i j → ⊥) → There n m k i j
-there h = (
+pub there : (a : Trace) (k i j : ℕ) → (Absent a k i j → ⊥) → There a k i j
+there a k i j h = (
   lt-of-not-le (λ l. h (inl l)),
   lt-of-not-le (λ l. h (inr (inl l))),
   omega (arith, lt-of-not-le (λ l. h (inr (inr (inl l))))),

@@ -1,6 +1,6 @@
 -- Exactly when each number of the paper's table is given, call by call: `k ≡ number ↔ (what passed before it) × (its row)`, and 0 where every check passes. Assumes nothing.
 use mathlib.Core.Path.{_≡_}
-use mathlib.Core.Logic.{_↔_, _⊎_}
+use mathlib.Core.Logic.{_↔_}
 use mathlib.Core.Bool.{Bool}
 use mathlib.Core.List.{List}
 use Prim.Native.Nat.{ℕ, _≤_, _<_}
@@ -11,7 +11,7 @@ use Rattle.refusal.specs.Check.{Decides, First}
 use Rattle.refusal.proofs.Rows.{Above, above-none, above-first, reached-none, reached-row, reached-all}
 use Rattle.geometry.specs.Coordinate.{Coord}
 use Rattle.trace.specs.declared.Trace.{Trace}
-use Rattle.trace.specs.Numbers.{Sized, Tolerances, LentSamples, LentTable, StoredSamples, StoredCells, SetupNumber, TraceNumber, StartNumber, AddNumber, CorrectNumber, AskNumber, ReadNumber}
+use Rattle.trace.specs.Numbers.{Sized, Tolerances, LentSamples, LentTable, StoredSamples, StoredCells, Absent, SetupNumber, TraceNumber, StartNumber, AddNumber, CorrectNumber, AskNumber, ReadNumber}
 use Rattle.trace.proofs.Decided.{lent-samples, lent-table, lent-ranks, samples-decided, stored-decided}
 use Rattle.trace.proofs.Passed.{Passed, PassedTable, past-1, past-2, past-3, past-4, samples-past, table-past, sample-past, ranks-past, add-past, correct-past, ask-past, read-past}
 
@@ -104,7 +104,7 @@ correct-rows a xs ys t v x y h =
 pub record AskRows (a : Trace) (xs ys : List ℤ) (k i j : ℕ) (n : ℕ) : Type 0 where
   pub trace : TraceRows a (LentSamples a xs ys) (StoredSamples a xs ys) n
   -- no such stretch or level
-  pub row-8 : n ≡ 8 ↔ Passed a xs ys × ((j ≤ i) ⊎ (a .held ≤ j) ⊎ (k < 1) ⊎ (a .levels < k))
+  pub row-8 : n ≡ 8 ↔ Passed a xs ys × Absent a k i j
   -- every check passes
   pub row-0 : n ≡ 0 ↔ Passed a xs ys × (i < j) × (j < a .held) × (1 ≤ k) × (k ≤ a .levels)
 

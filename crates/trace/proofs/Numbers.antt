@@ -18,7 +18,7 @@ use Rattle.geometry.specs.Coordinate.{Coord}
 use Rattle.trace.specs.declared.Trace.{Trace}
 use Rattle.trace.specs.Numbers.{LentSamples, LentTable, StoredSamples, StoredCells, SetupNumber, TraceNumber, Good, StartNumber, AddNumber, CorrectNumber, AskNumber, ReadNumber}
 use Rattle.trace.specs.Rows.{lentOk, setupOutcome, lentOutcome, traceOutcome, sampleOutcome, addOutcome, correctOutcome, askOutcome, readOutcome}
-use Rattle.trace.proofs.Decided.{setup-decided, tolerances-decided, lent-samples, lent-table, lent-ranks, samples-decided, stored-decided, sample-decided, there-decided, not-there, missed}
+use Rattle.trace.proofs.Decided.{setup-decided, tolerances-decided, lent-samples, lent-table, lent-ranks, samples-decided, stored-decided, sample-decided, there-decided, absent, not-both}
 use Rattle.trace.proofs.Checks.{lent-done}
 
 -- ---- the shared rows: 1 and 2, 1 to 4, 1 to 5
@@ -74,7 +74,7 @@ ask-number a xs ys k i j =
     row-number _ _
     (then-row _ _ (held-row a _ _ _ _ _ (lent-samples a xs ys))
     (λ e. then-row _ _ (unless-row _ Stored (samples-decided a xs ys))
-    (λ f. test-row _ Missing (λ b n. missed n (there-decided a k i j .right b)) (not-there a k i j))))
+    (λ f. test-row _ Missing (λ b n. not-both a k i j n (there-decided a k i j .right b)) (absent a k i j))))
 
 pub read-number : (a : Trace) (xs ys : List ℤ) (t ranks : List ℕ) → ReadNumber a xs ys t ranks (code (readOutcome a xs ys t (length ranks)))
 unfolding readOutcome

@@ -19,7 +19,7 @@ use Rattle.costs.proofs.Exit.{added-steps, corrected-steps}
 use Rattle.trace.specs.declared.Trace.{Trace}
 use Rattle.trace.specs.Numbers.{Sized, Tolerances, LentSamples, LentTable, StoredSamples, StoredCells, Good, SetupNumber, TraceNumber, StartNumber, AddNumber, CorrectNumber, AskNumber, ReadNumber}
 use Rattle.trace.specs.Rows.{Ready}
-use Rattle.trace.proofs.Decided.{setup-decided, tolerances-decided, lent-samples, lent-table, lent-ranks, samples-decided, stored-decided, sample-decided, missed, there}
+use Rattle.trace.proofs.Decided.{setup-decided, tolerances-decided, lent-samples, lent-table, lent-ranks, samples-decided, stored-decided, sample-decided, not-both, there}
 
 -- checks 1 to 5 of the setup and the coordinates
 pub record Passed (a : Trace) (xs ys : List ℤ) : Type 0 where
@@ -62,7 +62,7 @@ module _ (a : Trace) (xs ys : List ℤ) where
       (past-5 a (lent-samples a xs ys) (samples-decided a xs ys) h)
 
   pub ask-past : {n : ℕ} (k i j : ℕ) → AskNumber a xs ys k i j n → Reached (Passed a xs ys × (i < j) × (j < a .held) × (1 ≤ k) × (k ≤ a .levels)) 8 Good n
-  ask-past k i j h = reached-more 8 (omega arith) (λ p. let s = there (p .1) in (p .0, s .0, s .1, s .2, s .3), λ q. (q .0, λ n. missed n (q .1, q .2, q .3, q .4))) (samples-past h)
+  ask-past k i j h = reached-more 8 (omega arith) (λ p. let s = there a k i j (p .1) in (p .0, s .0, s .1, s .2, s .3), λ q. (q .0, λ n. not-both a k i j n (q .1, q .2, q .3, q .4))) (samples-past h)
 
   module _ (t : List ℕ) where
     pub table-past : {rest : ℕ → Type 0} {k : ℕ} → TraceNumber a (LentSamples a xs ys × LentTable a t) (StoredSamples a xs ys × StoredCells a t) rest k

@@ -8,7 +8,7 @@ use Rattle.refusal.specs.declared.Refusal.{Refusal}
 use Rattle.refusal.specs.declared.Outcome.{Outcome}
 use Rattle.refusal.specs.declared.Outcome.the-variants.{Done, Refused}
 use Rattle.refusal.specs.Number.{code}
-use Rattle.refusal.proofs.Rows.{numbered, number-one, code-one}
+use Rattle.refusal.proofs.Rows.{numbered, number-one, code-one, by-outcome}
 use Rattle.costs.specs.Costs.{Permit}
 use Rattle.trace.specs.declared.Trace.{Trace}
 use Rattle.trace.specs.declared.Started.{Started}
@@ -17,24 +17,19 @@ use Rattle.trace.specs.declared.Asked.{Asked}
 use Rattle.trace.specs.declared.Asked.the-variants as Asked
 use Rattle.trace.specs.declared.Levels.{Levels}
 use Rattle.trace.specs.Numbers.{StartNumber, AddNumber, CorrectNumber, ReadNumber}
-use Rattle.trace.specs.Calls.{StartGives, Buffers, buffers, Put, ChangeGives, AddGives, CorrectGives, asked, Says, AskGives, ReadGives}
+use Rattle.trace.specs.Calls.{StartGives, Buffers, Put, ChangeGives, AddGives, CorrectGives, asked, Says, AskGives, ReadGives}
 use Rattle.trace.proofs.Numbers.{start-number-one, add-number-one, correct-number-one, ask-number-one, read-number-one}
 use Rattle.trace.proofs.Passed.{read-passed}
 use Rattle.costs.proofs.Exit.{rewritten-unique}
 use Rattle.readout.proofs.Meaning.{ranks-one}
-use Rattle.trace.proofs.Calls.{Able, add-able, correct-able, put-rewritten}
+use Rattle.trace.proofs.Calls.{Able, add-able, correct-able, put-rewritten, buffers-is}
 
 -- two outcomes with a number that one row leaves no choice of are equal: both Done, or both one refusal
 pub by-number : {A : Type 0} (Number : ℕ → Type 0) → ((j k : ℕ) → Number j → Number k → j ≡ k) → (o p : Outcome) → Number (code o) → Number (code p)
     → (o ≡ p → o ≡ Done → p ≡ Done → A) → (o ≡ p → (why : Refusal) → o ≡ Refused why → p ≡ Refused why → A) → A
-by-number {A} Number one o p h g done refused = go o refl
-  where
-    e : o ≡ p
-    e = code-one o p (one (code o) (code p) h g)
-
-    go : (t : Outcome) → o ≡ t → A
-    go Done d = done e d (sym e ∙ d)
-    go (Refused w) d = refused e w d (sym e ∙ d)
+by-number Number one o p h g done refused =
+    let e = code-one o p (one (code o) (code p) h g) in
+    by-outcome o (λ d. done e d (sym e ∙ d)) (λ w d. refused e w d (sym e ∙ d))
 
 -- ---- start
 pub start-one : (m N : ℕ) (tols : List ℕ) (r q : Started) → StartGives m N tols r → StartGives m N tols q → r ≡ q
@@ -47,14 +42,11 @@ start-one m N tols r q A B =
     same e f = let h : _≡_ {A = Started} (record { outcome = r .outcome; trace = r .trace }) (record { outcome = q .outcome; trace = q .trace }) = cc in h
 
 -- ---- add and correct
--- answers and buffers are equal where their parts are
+-- answers are equal where their parts are
 changed-same : {r q : Changed} → r .outcome ≡ q .outcome → r .trace ≡ q .trace → r .cells ≡ q .cells → r ≡ q
 changed-same {r} {q} e f g =
     let h : _≡_ {A = Changed} (record { outcome = r .outcome; trace = r .trace; cells = r .cells }) (record { outcome = q .outcome; trace = q .trace; cells = q .cells }) = cc in
     h
-
-buffers-same : {e f : Buffers} → e .across ≡ f .across → e .upward ≡ f .upward → e .table ≡ f .table → e ≡ f
-buffers-same {e} {f} u v w = let h : buffers (e .across) (e .upward) (e .table) ≡ buffers (f .across) (f .upward) (f .table) = cc in h
 
 module _ (Number : ℕ → Type 0) (one : (j k : ℕ) → Number j → Number k → j ≡ k) (a : Trace) (b : Buffers) (v n : ℕ) (x y : ℤ) (able : Number 0 → Able a b v n x y) where
   -- the tables that one change of a sample may leave
@@ -69,7 +61,7 @@ module _ (Number : ℕ → Type 0) (one : (j k : ℕ) → Number j → Number k 
           let P = A .done h in
           let Q = B .done g in (
             changed-same o (P .trace ∙ sym (Q .trace)) (P .count ∙ sym (Q .count)),
-            buffers-same (P .across ∙ sym (Q .across)) (P .upward ∙ sym (Q .upward)) (table-one (able (rw h at (A .number))) P Q),
+            buffers-is (P .across ∙ sym (Q .across)) (P .upward ∙ sym (Q .upward)) (table-one (able (rw h at (A .number))) P Q),
           )
 
       refused : r .outcome ≡ q .outcome → (why : Refusal) → r .outcome ≡ Refused why → q .outcome ≡ Refused why → (r ≡ q) × (e ≡ f)

@@ -67,10 +67,13 @@ CorrectNumber a xs ys t v x y =
     (First 8 (a .held ≤ v) Good))
 
 -- no such stretch, or no such level
+abbrev pub Absent : Trace → ℕ → ℕ → ℕ → Type 0
+Absent a k i j = (j ≤ i) ⊎ (a .held ≤ j) ⊎ (k < 1) ⊎ (a .levels < k)
+
 abbrev pub AskNumber : Trace → List ℤ → List ℤ → ℕ → ℕ → ℕ → ℕ → Type 0
 AskNumber a xs ys k i j =
     TraceNumber a (LentSamples a xs ys) (StoredSamples a xs ys)
-    (First 8 ((j ≤ i) ⊎ (a .held ≤ j) ⊎ (k < 1) ⊎ (a .levels < k)) Good)
+    (First 8 (Absent a k i j) Good)
 
 -- the rank buffer has n bytes
 abbrev pub ReadNumber : Trace → List ℤ → List ℤ → List ℕ → List ℕ → ℕ → Type 0

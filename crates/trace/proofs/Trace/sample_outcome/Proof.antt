@@ -1,6 +1,6 @@
 -- `trace::Trace::sample_outcome` meets its contract. Assumes nothing.
-use Rattle.algebra.proofs.Signed.{handed₂}
-use Rattle.trace.specs.Rows.{sampleOk, sampleOutcome}
+use mir.Facts.{toZ-ofZ}
+use Rattle.trace.specs.Rows.{sampleOutcome}
 use borrow.Author.Needs.{needs}
 use Rattle.trace.proofs.Trace.sample_outcome.Statement.{statement}
 use Rattle.trace.proofs.Trace.sample_outcome.Tie as tie
@@ -26,8 +26,7 @@ returns c =
     let u = c .before .before in
     let d = u .before in
     let s = d .before .before .before in
-    let h = handed₂ sampleOk (s .args .x) (s .args .y) (s .fits .x) (s .fits .y) (d .sample-ok .ensures) in
-    rw (c .and-then2 .ensures, c .before .and-then .ensures, u .unless .ensures, h, d .before .trace-outcome .ensures)
+    rw (c .and-then2 .ensures, c .before .and-then .ensures, u .unless .ensures, d .sample-ok .ensures, toZ-ofZ (s .fits .x), toZ-ofZ (s .fits .y), d .before .trace-outcome .ensures)
 
 pub sample-outcome-spec : {M : Type 1} → statement M
 sample-outcome-spec =
