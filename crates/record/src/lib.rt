@@ -3,7 +3,7 @@ ghost use mathlib.Core.Path.{_≡_};
 ghost use Prim.Native.Nat.{_+_, _*_, _≤_, _<_};
 ghost use lib.ListN.{length};
 ghost use Rattle.geometry.specs.Coordinate.{coordinateOk};
-ghost use Rattle.record.specs.Record.{signedAt, word, counter, spareOk, recordOutcome, decodeOutcome, decodeOf};
+ghost use Rattle.record.specs.Record.{signed, signedAt, word, counter, spareOk, recordOutcome, decodeOutcome, decodeOf};
 ghost use Rattle.record.specs.Pause.{fileLengthOk, recordBytes, recordsOutcome, fileOutcome, increase, increaseAt, pauseSum, pauseLineOf};
 use geometry::coordinate_ok;
 use refusal::Outcome;
@@ -55,17 +55,23 @@ fn word_at(s: &[u8], p: usize) -> u16
     low as u16 + 256 * (high as u16)
 }
 
-// Two bytes from place p as a signed number.
-fn signed_at(s: &[u8], p: usize) -> i16
-    requires { ⌜ p + 1 < length (now s) ⌝ }
-    ensures { λ r. ⌜ r ≡ signedAt (now (s .entry)) p ⌝ }
+// 16 bits as a signed number.
+pub fn from_bits(u: u16) -> i16
+    ensures { λ r. ⌜ r ≡ signed u ⌝ }
 {
-    let u = word_at(s, p);
     if u < 32768 {
         u as i16
     } else {
         -1 - ((65535 - u) as i16)
     }
+}
+
+// Two bytes from place p as a signed number.
+fn signed_at(s: &[u8], p: usize) -> i16
+    requires { ⌜ p + 1 < length (now s) ⌝ }
+    ensures { λ r. ⌜ r ≡ signedAt (now (s .entry)) p ⌝ }
+{
+    from_bits(word_at(s, p))
 }
 
 // Whether the coordinate at place p is in range.

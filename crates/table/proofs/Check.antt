@@ -1,18 +1,21 @@
 -- The test of the cells decides check 5 in plain words. Assumes nothing.
-use mathlib.Core.Path.{_≡_}
-use mathlib.Core.Bool.{_&&_}
+use mathlib.Core.Path.{_≡_, sym, ap}
+use mathlib.Core.Bool.{Bool, _&&_, and-true}
 use mathlib.Core.List.{List}
 use mathlib.Core.Logic.{_⊎_, inl, inr, ⊎-elim}
 use Prim.Native.Nat.{ℕ, _+_, _-_, _*_, _≤_, _<_}
+use native.Mathlib.Nat.{add-zero}
+use native.Mathlib.Numerals.{add-one}
 use native.Mathlib.Omega.{arith}
 use lib.Dec.{eqb, ltb}
 use lib.ListN.{getD}
-use Rattle.refusal.specs.Check.{Decides, from-to}
-use Rattle.refusal.proofs.Plain.{carry, by-equal, by-less, both-decided, either-decided, from-to-decided, all-decided}
+use borrow.Author.Tests.{le-leb}
+use Rattle.refusal.specs.Check.{Decides, allBelow, from-to}
+use Rattle.refusal.proofs.Plain.{decides-unique, carry, by-equal, by-less, both-decided, either-decided, from-to-decided, all-decided}
 use Rattle.family.specs.Lists.{none}
 use Rattle.family.specs.Fine.{Fine, Checked}
 use Rattle.table.specs.Table.{at, cell}
-use Rattle.table.specs.Check.{cellOk, rowOk, levelOk, cellsOk}
+use Rattle.table.specs.Check.{cellOk, longOk, rowOk, levelOk, cellsOk}
 
 -- a cell of a stretch of so many steps, in plain words
 abbrev FineBy : ℕ → ℕ → ℕ → Type 0
@@ -24,6 +27,31 @@ cell-decided k steps v =
     either-decided (eqb v none && ltb 1 steps) (from-to k (1 + (k - 1) * steps) v)
     (both-decided (eqb v none) (ltb 1 steps) (by-equal v none) (by-less 1 steps))
     (from-to-decided k (1 + (k - 1) * steps) v)
+
+-- so the cell of neighbours is k itself
+pub neighbours-by : (k v : ℕ) → 1 ≤ k → eqb v k ≡ cellOk k 1 v
+neighbours-by k v h =
+    decides-unique (eqb v k) (cellOk k 1 v) (by-equal v k)
+    (carry (λ f. ⊎-elim (λ p. omega arith) (λ p. omega arith) f) (λ e. inr (omega arith)) (cell-decided k 1 v))
+
+-- and that of a longer stretch is known by the most that it may be
+pub longer-by : (k d most v : ℕ) → 1 ≤ d → most ≡ 1 + (k - 1) * (d + 1) → longOk k most v ≡ cellOk k (d + 1) v
+unfolding cellOk longOk
+longer-by k d most v h e = rw (e, le-leb 2 (d + 1) (omega arith)) (simp and-true)
+
+-- a row, cell by cell
+module _ (t : List ℕ) (base k : ℕ) where
+  abbrev cellsOf : ℕ → Bool
+  cellsOf d = allBelow d (λ x. cellOk k (x + 1) (getD t (base + x) 0))
+
+  pub row-first : (ok : Bool) → ok ≡ cellOk k 1 (getD t base 0) → ok ≡ cellsOf 1
+  unfolding allBelow
+  row-first ok h = rw (add-zero base) h
+
+  pub row-next : (d most : ℕ) (ok next both : Bool) → 1 ≤ d → most ≡ 1 + (k - 1) * d → ok ≡ cellsOf d → next ≡ longOk k (most + (k - 1)) (getD t (base + d) 0) → both ≡ ok && next
+      → both ≡ cellsOf (d + 1)
+  unfolding allBelow
+  row-next d most ok next both h e a b c = rw (c, a, b, longer-by k d (most + (k - 1)) (getD t (base + d) 0) h (omega arith)) (ap cellsOf (sym (add-one d)))
 
 -- a stretch of i to j has j - i steps
 fine-by : (k i j v : ℕ) → i < j → (Fine k i j v → FineBy k (j - i) v) × (FineBy k (j - i) v → Fine k i j v)

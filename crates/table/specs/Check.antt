@@ -12,6 +12,10 @@ use Rattle.table.specs.Table.{at}
 unfoldable pub cellOk : ℕ → ℕ → ℕ → Bool
 cellOk k steps v = eqb v none && ltb 1 steps || from-to k (1 + (k - 1) * steps) v
 
+-- that of a stretch that is not of neighbours, by the most that it may be
+unfoldable pub longOk : ℕ → ℕ → ℕ → Bool
+longOk k most v = eqb v none || from-to k most v
+
 -- the cells of stretches of 1, 2, .. steps from one sample, which stand one after another; of all samples; of levels 1 to m
 unfoldable pub rowOk : List ℕ → ℕ → ℕ → ℕ → Bool
 rowOk t base k count = allBelow count (λ d. cellOk k (d + 1) (getD t (base + d) 0))

@@ -1,10 +1,11 @@
 // The table of costs: where a cell stands, check 5 of the cells that a trace holds, and the chosen step of a path over one level's cells.
 ghost use mathlib.Core.Path.{_≡_};
+ghost use mathlib.Core.Bool.{_&&_};
 ghost use Prim.Native.Nat.{ℕ, _+_, _*_, _≤_, _<_};
 ghost use lib.ListN.{length, getD};
 ghost use Rattle.table.specs.Table.{at, cell};
 ghost use Rattle.table.specs.Path.{SumAt, Stopped};
-ghost use Rattle.table.specs.Check.{cellOk, rowOk, levelOk, cellsOk};
+ghost use Rattle.table.specs.Check.{cellOk, longOk, rowOk, levelOk, cellsOk};
 
 // The address of the cell of level k and stretch i to j, with room for cap samples.
 pub fn cell_at(cap: usize, k: usize, i: usize, j: usize) -> usize
@@ -14,34 +15,49 @@ pub fn cell_at(cap: usize, k: usize, i: usize, j: usize) -> usize
     (k - 1) * (cap * cap) + i * cap + j
 }
 
-// Whether a cell of level k and a stretch of so many steps may hold the cost.
-fn cell_ok(k: usize, steps: usize, cost: u16) -> bool
-    requires { ⌜ (1 ≤ k) × (k ≤ 16) × (steps ≤ 256) ⌝ }
-    ensures { λ r. ⌜ r ≡ cellOk k steps cost ⌝ }
+// Whether a cell of level k and of neighbours may hold the cost.
+fn neighbours_ok(k: u16, cost: u16) -> bool
+    requires { ⌜ (1 ≤ k) × (k ≤ 16) ⌝ }
+    ensures { λ r. ⌜ r ≡ cellOk k 1 cost ⌝ }
+{
+    cost == k
+}
+
+// Whether a cell of level k and of a longer stretch may: none, or from k to most.
+fn cell_ok(k: u16, most: u16, cost: u16) -> bool
+    ensures { λ r. ⌜ r ≡ longOk k most cost ⌝ }
 {
     if cost == 65535 {
-        return 1 < steps;
+        return true;
     }
-    let cost = cost as usize;
     if cost < k {
         return false;
     }
-    cost <= 1 + (k - 1) * steps
+    cost <= most
 }
 
-// Whether the cells of level k from an address on, of the stretches of 1, 2, .. steps, may hold what they hold.
-fn row_ok(table: &[u16], base: usize, k: usize, count: usize) -> bool
-    requires { ⌜ (1 ≤ k) × (k ≤ 16) × (count ≤ 256) × (base + count ≤ length (now table)) ⌝ }
+// Both of two answers.
+fn both(a: bool, b: bool) -> bool
+    ensures { λ r. ⌜ r ≡ a && b ⌝ }
+{
+    a & b
+}
+
+// Whether the cells of level k from an address on, of the stretches of 1, 2, .. steps, may hold what they hold. A bad cell does not end the loop, which is
+// compiled to many cells at a time so.
+fn row_ok(table: &[u16], base: usize, k: u16, count: usize) -> bool
+    requires { ⌜ (1 ≤ k) × (k ≤ 16) × (1 ≤ count) × (count ≤ 256) × (base + count ≤ length (now table)) ⌝ }
     ensures { λ r. ⌜ r ≡ rowOk (now (table .entry)) base k count ⌝ }
 {
-    let mut d = 0;
+    let mut ok = neighbours_ok(k, table[base]);
+    let mut most = k;
+    let mut d = 1;
     while d < count {
-        if !cell_ok(k, d + 1, table[base + d]) {
-            return false;
-        }
+        most += k - 1;
+        ok = both(ok, cell_ok(k, most, table[base + d]));
         d += 1;
     }
-    true
+    ok
 }
 
 // Whether the cells of level k of the stretches of the first held samples may.
@@ -52,7 +68,7 @@ fn level_ok(table: &[u16], cap: usize, held: usize, k: usize) -> bool
     let mut i = 0;
     while i + 1 < held {
         let base = cell_at(cap, k, i, i + 1);
-        if !row_ok(table, base, k, held - (i + 1)) {
+        if !row_ok(table, base, k as u16, held - (i + 1)) {
             return false;
         }
         i += 1;

@@ -39,6 +39,9 @@ add-cell-at c = omega arith
 cell-at-requires : tie.Need-cell-at-requires Inv-loop μ-loop
 cell-at-requires c κs = omega arith
 
+cast-row-ok : tie.Need-cast-row-ok Inv-loop μ-loop
+cast-row-ok c = omega arith
+
 add-row-ok : tie.Need-add-row-ok Inv-loop μ-loop
 add-row-ok c = omega arith
 
@@ -80,6 +83,7 @@ level-ok-spec =
     add-loop
     add-cell-at
     cell-at-requires
+    cast-row-ok
     add-row-ok
     sub-row-ok
     row-ok-requires

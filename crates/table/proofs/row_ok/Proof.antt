@@ -1,28 +1,50 @@
--- `table::row_ok` meets its contract. The loop's invariant: every cell passed may hold what it holds. Assumes nothing.
-use mathlib.Core.Path.{sym, _∙_}
-use Prim.Native.Nat.{_+_, _-_}
+-- `table::row_ok` meets its contract. The loop's invariant: whether every cell passed may hold what it holds, and the most that the last may be. Assumes nothing.
+use mathlib.Core.Path.{_≡_, refl, sym, _∙_}
+use Prim.Native.Nat.{ℕ, _+_, _-_, _*_, _≤_}
+use native.Mathlib.Nat.{mul-le-mul}
 use native.Mathlib.Omega.{arith}
 use lib.ListN.{getD}
-use borrow.Author.Tests.{not-true, not-false}
-use Rattle.refusal.proofs.Laws.{all-no, Passed, passed-none, passed-more, passed-all}
+use Rattle.refusal.specs.Check.{allBelow}
 use Rattle.table.specs.Check.{cellOk, rowOk}
+use Rattle.table.proofs.Check.{row-first, row-next}
 use Rattle.table.proofs.row_ok.Statement.{statement}
 use Rattle.table.proofs.row_ok.Tie as tie
 
 abbrev Inv-loop : tie.InvT-loop
-Inv-loop table base k count d₀ d = Passed count (λ x. cellOk k (x + 1) (getD table (base + x) 0)) d
+Inv-loop table base k count ok₀ most₀ d₀ ok most d =
+    (1 ≤ d) × (d ≤ count) × (most ≡ 1 + (k - 1) * d) × (ok ≡ allBelow d (λ x. cellOk k (x + 1) (getD table (base + x) 0)))
 
 abbrev μ-loop : tie.MeasureT-loop
-μ-loop table base k count d₀ d = count - d
+μ-loop table base k count ok₀ most₀ d₀ ok most d = count - d
+
+-- the most that a cost may be
+below-16 : (k d : ℕ) → k ≤ 16 → d ≤ 256 → (k - 1) * d ≤ 3840
+below-16 k d h l = mul-le-mul {n₂ = 15} {m₂ = 256} (omega arith) l
+
+mul-neighbours-ok : tie.Need-mul-neighbours-ok Inv-loop μ-loop
+mul-neighbours-ok c = omega arith
+
+shared-slice-read-neighbours-ok : tie.Need-shared-slice-read-neighbours-ok Inv-loop μ-loop
+shared-slice-read-neighbours-ok c = omega arith
+
+neighbours-ok-requires : tie.Need-neighbours-ok-requires Inv-loop μ-loop
+neighbours-ok-requires c κs = omega arith
 
 loop-holds : tie.Need-loop-holds Inv-loop μ-loop
-loop-holds c = passed-none
+loop-holds c =
+    let a = c .before .before .before .args in
+    (omega arith, omega arith, omega arith, row-first (a .table .now) (a .base) (a .k) _ (c .neighbours-ok .ensures))
+
+sub-most : tie.Need-sub-most Inv-loop μ-loop
+sub-most c = omega arith
+
+add-most : tie.Need-add-most Inv-loop μ-loop
+add-most c =
+    let a = c .before .before .before .before .before in
+    omega (arith, below-16 (a .args .k) (c .before .loop .d + 1) (a .pre .1) (omega arith))
 
 add-cell-ok : tie.Need-add-cell-ok Inv-loop μ-loop
 add-cell-ok c = omega arith
-
-add-cell-ok-2 : tie.Need-add-cell-ok-2 Inv-loop μ-loop
-add-cell-ok-2 c = omega arith
 
 mul-cell-ok : tie.Need-mul-cell-ok Inv-loop μ-loop
 mul-cell-ok c = omega arith
@@ -33,9 +55,8 @@ shared-slice-read-cell-ok c = omega arith
 cell-ok-requires : tie.Need-cell-ok-requires Inv-loop μ-loop
 cell-ok-requires c κs = omega arith
 
-returns : tie.Need-returns Inv-loop μ-loop
-unfolding rowOk
-returns c = sym (all-no _ (c .before .before .before .before .loop .d) _ (omega arith) (sym (c .before .cell-ok .ensures) ∙ not-true _ (c .if1 .taken)))
+both-requires : tie.Need-both-requires Inv-loop μ-loop
+both-requires c κs = omega arith
 
 add-d : tie.Need-add-d Inv-loop μ-loop
 add-d c = omega arith
@@ -44,11 +65,17 @@ loop-less : tie.Need-loop-less Inv-loop μ-loop
 loop-less c = omega arith
 
 loop-again : tie.Need-loop-again Inv-loop μ-loop
-loop-again c = passed-more (c .before .before .before .before .loop .inv) (omega arith) (sym (c .before .cell-ok .ensures) ∙ not-false _ (c .if1 .left))
+loop-again c =
+    let l = c .before .before .before .before .loop in
+    let a = c .before .before .before .before .before .before .before .before .args in
+    (omega arith, omega arith, omega arith, row-next (a .table .now) (a .base) (a .k) (l .d) (l .most) (l .ok) _ _ (l .inv .0) (l .inv .2) (l .inv .3) (c .before .cell-ok .ensures) (c .both .ensures))
 
-returns-2 : tie.Need-returns-2 Inv-loop μ-loop
+returns : tie.Need-returns Inv-loop μ-loop
 unfolding rowOk
-returns-2 c = sym (passed-all (c .before .loop .inv) (omega arith))
+returns c =
+    let l = c .before .loop in
+    let e : l .d ≡ c .before .before .before .before .before .args .count = omega arith in
+    rw (sym e) (l .inv .3)
 
 pub row-ok-spec : {M : Type 1} → statement M
 row-ok-spec =
@@ -56,14 +83,18 @@ row-ok-spec =
     (tie.spec
     Inv-loop
     μ-loop
+    mul-neighbours-ok
+    shared-slice-read-neighbours-ok
+    neighbours-ok-requires
     loop-holds
+    sub-most
+    add-most
     add-cell-ok
-    add-cell-ok-2
     mul-cell-ok
     shared-slice-read-cell-ok
     cell-ok-requires
-    returns
+    both-requires
     add-d
     loop-less
     loop-again
-    returns-2)
+    returns)

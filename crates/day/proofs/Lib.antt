@@ -1,0 +1,6 @@
+pub mod Records
+pub mod Filled
+pub mod Lines
+pub mod Listed
+pub mod Reported
+pub mod Day

@@ -1,0 +1,43 @@
+-- `day::add_record` meets its contract: the sample is the file's. Assumes nothing.
+use borrow.Author.Needs.{needs}
+use mathlib.Core.Path.{refl, sym, ap, _∙_}
+use Rattle.record.specs.Record.{decodeOf}
+use Rattle.day.proofs.Records.{good-sample}
+use Rattle.day.proofs.add_record.Statement.{statement}
+use Rattle.day.proofs.add_record.Tie as tie
+
+record-of-requires : tie.Need-record-of-requires
+record-of-requires c κs = search needs
+
+decode-requires : tie.Need-decode-requires
+decode-requires c κs = search needs
+
+add-requires : tie.Need-add-requires
+add-requires c κs = search needs
+
+same-length : tie.Need-same-length
+same-length c = search needs
+
+same-length-2 : tie.Need-same-length-2
+same-length-2 c = search needs
+
+same-length-3 : tie.Need-same-length-3
+same-length-3 c = search needs
+
+returns : tie.Need-returns
+returns c =
+    let p = c .before .before .before .before .before .before .before .before .before .before .before .before .before .before .pre in
+    let z = good-sample _ (p .0) _ (p .1) _ (c .before .before .before .before .before .before .before .before .before .before .decode .ensures .0 ∙ ap decodeOf (c .before .before .before .before .before .before .before .before .before .before .before .record-of .ensures .0)) in
+    (rw (z .0, z .1) at (c .before .before .before .before .add .ensures), refl)
+
+pub add-record-spec : {M : Type 1} → statement M
+add-record-spec =
+    tie.close
+    (tie.spec
+    record-of-requires
+    decode-requires
+    add-requires
+    same-length
+    same-length-2
+    same-length-3
+    returns)

@@ -1,0 +1,86 @@
+-- What dayline prints of a file of records. Bytes are ASCII codes. Assumes nothing.
+use mathlib.Core.Path.{_≡_}
+use mathlib.Core.Logic.{_⊎_}
+use mathlib.Core.List.{List, [], _∷_, _++_}
+use Prim.Native.Nat.{ℕ, zero, suc, _*_, _-_, _/_, _<_}
+use lib.IntN.{ℤ}
+use lib.ListN.{length, replicate}
+use Rattle.refusal.specs.Check.{First}
+use Rattle.family.specs.Levels.{Chosen, size, ranks}
+use Rattle.costs.specs.Costs.{Permit}
+use Rattle.record.specs.Record.{across, up}
+use Rattle.record.specs.Pause.{pauseSum}
+use Rattle.record.specs.Plain.{FileGiven}
+use Rattle.text.specs.Text.{decimal, signedDecimal, Written}
+
+-- how many records a file has
+abbrev pub count : List ℕ → ℕ
+count s = length s / 16
+
+-- f 0, f 1, .. up to n of them
+unfoldable pub listed : (ℕ → ℤ) → ℕ → List ℤ
+listed f zero = []
+listed f (suc n) = listed f n ++ (f n ∷ [])
+
+-- the coordinates of its first n records
+abbrev pub acrossOf : List ℕ → ℕ → List ℤ
+acrossOf s = listed (λ i. across s (16 * i))
+
+abbrev pub upOf : List ℕ → ℕ → List ℤ
+upOf s = listed (λ i. up s (16 * i))
+
+-- tolerances 1, 4, 16 at three levels
+abbrev pub tolerances : List ℕ
+tolerances = 1 ∷ 4 ∷ 16 ∷ replicate 13 0
+
+-- the number of a refused day, 0 for none: the pause line's first, then that of each add, of which the 105th finds no room, then the read's
+abbrev pub DayNumber : List ℕ → ℕ → Type 0
+DayNumber s k = (FileGiven s k × (k ≡ 0 → ⊥)) ⊎ (FileGiven s 0 × First 7 (104 < count s) (First 9 (count s < 2) (λ k. k ≡ 0)) k)
+
+-- ---- the lines; 10 ends a line, 32 is a space
+-- "refused ", the number
+abbrev pub refusedLine : ℕ → List ℕ
+refusedLine k = 114 ∷ 101 ∷ 102 ∷ 117 ∷ 115 ∷ 101 ∷ 100 ∷ 32 ∷ (decimal k ++ (10 ∷ []))
+
+-- "samples ", their count, " levels 3"
+abbrev pub countsLine : ℕ → List ℕ
+countsLine n = (115 ∷ 97 ∷ 109 ∷ 112 ∷ 108 ∷ 101 ∷ 115 ∷ 32 ∷ decimal n) ++ (32 ∷ 108 ∷ 101 ∷ 118 ∷ 101 ∷ 108 ∷ 115 ∷ 32 ∷ 51 ∷ 10 ∷ [])
+
+-- a sample: its number, across, up, rank
+abbrev pub sampleLine : ℕ → ℤ → ℤ → ℕ → List ℕ
+sampleLine i x y rank = decimal i ++ (32 ∷ signedDecimal x) ++ (32 ∷ signedDecimal y) ++ (32 ∷ decimal rank) ++ (10 ∷ [])
+
+-- the first n samples of a file, in the levels L
+unfoldable pub sampleLines : List ℕ → (ℕ → List ℕ) → ℕ → List ℕ
+sampleLines s L zero = []
+sampleLines s L (suc n) = sampleLines s L n ++ sampleLine n (across s (16 * n)) (up s (16 * n)) (ranks L 3 n)
+
+-- "segments ", their total, and the count of levels 1, 2, 3
+abbrev pub segmentsLine : (ℕ → List ℕ) → List ℕ
+segmentsLine L =
+    (115 ∷ 101 ∷ 103 ∷ 109 ∷ 101 ∷ 110 ∷ 116 ∷ 115 ∷ 32 ∷ decimal (size L 3)) ++ (32 ∷ decimal (length (L 1) - 1)) ++ (32 ∷ decimal (length (L 2) - 1))
+    ++ (32 ∷ decimal (length (L 3) - 1)) ++ (10 ∷ [])
+
+-- "pause ", the line in milliseconds
+abbrev pub pauseText : ℕ → List ℕ
+pauseText sum = 112 ∷ 97 ∷ 117 ∷ 115 ∷ 101 ∷ 32 ∷ (decimal sum ++ (10 ∷ []))
+
+-- ---- the whole
+-- the text of a day whose levels are L
+unfoldable pub levelsText : List ℕ → (ℕ → List ℕ) → List ℕ
+levelsText s L = countsLine (count s) ++ sampleLines s L (count s) ++ segmentsLine L ++ pauseText (pauseSum s (count s))
+
+-- L is the chosen minimal family of the file's samples
+abbrev pub DayLevels : List ℕ → (ℕ → List ℕ) → Type 0
+DayLevels s L = Chosen (Permit (acrossOf s (count s)) (upOf s (count s)) tolerances) 3 0 (count s - 1) L
+
+-- t is what is printed of the file s: the number alone where it is refused, else the text of its levels
+pub record DayText (s t : List ℕ) : Type 0 where
+  pub number : ℕ
+  pub given : DayNumber s number
+  pub refused : (number ≡ 0 → ⊥) → t ≡ refusedLine number
+  pub done : number ≡ 0 → (L : ℕ → List ℕ) × DayLevels s L × (t ≡ levelsText s L)
+
+-- that text is written at the start of a buffer
+abbrev pub Reported : List ℕ → List ℕ → List ℕ → ℕ → Type 0
+Reported s out out′ r = (t : List ℕ) × DayText s t × Written out 0 t out′ r

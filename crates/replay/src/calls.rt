@@ -1,0 +1,256 @@
+// The commands on a trace and the lent parts of the buffers: each writes its answer as a line of text, or none.
+ghost use Prim.Native.Nat.{_≤_};
+ghost use lib.ListN.{length};
+use crate::command;
+use crate::digest;
+use crate::line;
+use crate::poke;
+use refusal::Outcome;
+use trace::Asked;
+use trace::Changed;
+use trace::Trace;
+
+// A trace after a command, and where the line of its answer ends.
+pub struct Told {
+    pub trace: Trace,
+    pub end: usize,
+}
+
+// setup m N n t1..t16: forge the trace.
+fn setup(command: &[u8; 80], trace: Trace, text: &mut [u8]) -> Told
+    ensures { λ r. ⌜ r .end ≤ length (now (text .exit)) ⌝ }
+{
+    if !command::are_whole(command, command::NUMBERS) {
+        let end = line::unknown(text);
+        return Told { trace, end };
+    }
+    let levels = command::count(command, 0);
+    let capacity = command::count(command, 1);
+    let held = command::count(command, 2);
+    let tolerances = command::tolerances(command, 3);
+    let forged = Trace {
+        levels,
+        capacity,
+        held,
+        tolerances,
+    };
+    Told {
+        trace: forged,
+        end: 0,
+    }
+}
+
+// start m N t1..t16
+fn start(command: &[u8; 80], trace: Trace, text: &mut [u8]) -> Told
+    ensures { λ r. ⌜ r .end ≤ length (now (text .exit)) ⌝ }
+{
+    if !command::are_whole(command, 18) {
+        let end = line::unknown(text);
+        return Told { trace, end };
+    }
+    let levels = command::count(command, 0);
+    let capacity = command::count(command, 1);
+    let started = Trace::start(levels, capacity, command::tolerances(command, 2));
+    let trace = started.trace;
+    let o = started.outcome;
+    let at = line::first(text, o);
+    let at = line::next(text, at, trace.levels as u64);
+    let at = line::next(text, at, trace.capacity as u64);
+    let at = line::next(text, at, trace.held as u64);
+    let tolerances = trace.tolerances;
+    let at = line::sixteen(text, at, tolerances);
+    let end = line::end(text, at);
+    Told { trace, end }
+}
+
+// The answer to add and to correct: f cells n crc.
+fn changed(text: &mut [u8], answer: Changed, crc: u32) -> Told
+    ensures { λ r. ⌜ r .end ≤ length (now (text .exit)) ⌝ }
+{
+    let trace = answer.trace;
+    let o = answer.outcome;
+    let at = line::first(text, o);
+    let at = line::next(text, at, answer.cells as u64);
+    let at = line::next(text, at, trace.held as u64);
+    let at = line::next(text, at, crc as u64);
+    let end = line::end(text, at);
+    Told { trace, end }
+}
+
+// ask i j k: f a q.
+fn ask(command: &[u8; 80], trace: Trace, xs: &[i16], ys: &[i16], text: &mut [u8]) -> usize
+    ensures { λ r. ⌜ r ≤ length (now (text .exit)) ⌝ }
+{
+    if !command::are_whole(command, 3) {
+        return line::unknown(text);
+    }
+    let i = command::count(command, 0);
+    let j = command::count(command, 1);
+    let k = command::count(command, 2);
+    let answer = trace.ask(xs, ys, k, i, j);
+    match answer {
+        Asked::Yes => text::bytes(text, 0, b"0 1 -\n"),
+        Asked::No => text::bytes(text, 0, b"0 0 -\n"),
+        Asked::Refused(why) => {
+            let at = line::first(text, Outcome::Refused(why));
+            text::bytes(text, at, b" - -\n")
+        }
+    }
+}
+
+// The counts of the levels, as wide as tolerances.
+fn widened(segments: [u16; 16]) -> [u32; 16] {
+    let mut out: [u32; 16] = [0; 16];
+    let mut l = 0;
+    while l < 16 {
+        out[l] = segments[l] as u32;
+        l += 1;
+    }
+    out
+}
+
+// read: f total c1..c16 crc.
+fn read(
+    steps: &[u32; 256],
+    trace: Trace,
+    xs: &[i16],
+    ys: &[i16],
+    cells: &[u16],
+    ranks: &mut [u8],
+    text: &mut [u8],
+) -> usize
+    ensures { λ r. ⌜ r ≤ length (now (text .exit)) ⌝ }
+{
+    let levels = trace.read(xs, ys, cells, ranks);
+    let segments = levels.segments;
+    let o = levels.outcome;
+    let at = line::first(text, o);
+    let at = line::next(text, at, levels.total as u64);
+    let at = line::sixteen(text, at, widened(segments));
+    let crc = digest::of_all(steps, xs, ys, cells, ranks);
+    let at = line::next(text, at, crc as u64);
+    line::end(text, at)
+}
+
+// decode: f across up pause rank, of the 16 bytes after the first four.
+fn decode(command: &[u8], text: &mut [u8]) -> usize
+    requires { ⌜ 20 ≤ length (now command) ⌝ }
+    ensures { λ r. ⌜ r ≤ length (now (text .exit)) ⌝ }
+{
+    let d = record::decode(&command[4..20]);
+    let o = d.outcome;
+    let at = line::first(text, o);
+    let at = line::next_signed(text, at, d.across);
+    let at = line::next_signed(text, at, d.up);
+    let at = line::next(text, at, d.pause as u64);
+    let at = line::next(text, at, d.rank as u64);
+    line::end(text, at)
+}
+
+// add x y
+fn add(
+    command: &[u8; 80],
+    steps: &[u32; 256],
+    trace: Trace,
+    xs: &mut [i16],
+    ys: &mut [i16],
+    cells: &mut [u16],
+    ranks: &[u8],
+    text: &mut [u8],
+) -> Told
+    ensures { λ r. ⌜ r .end ≤ length (now (text .exit)) ⌝ }
+{
+    if !command::is_sample(command, 0) {
+        let end = line::unknown(text);
+        return Told { trace, end };
+    }
+    let x = command::coordinate(command, 0);
+    let y = command::coordinate(command, 1);
+    let answer = trace.add(xs, ys, cells, x, y);
+    let crc = digest::of_all(steps, xs, ys, cells, ranks);
+    changed(text, answer, crc)
+}
+
+// correct v x y
+fn correct(
+    command: &[u8; 80],
+    steps: &[u32; 256],
+    trace: Trace,
+    xs: &mut [i16],
+    ys: &mut [i16],
+    cells: &mut [u16],
+    ranks: &[u8],
+    text: &mut [u8],
+) -> Told
+    ensures { λ r. ⌜ r .end ≤ length (now (text .exit)) ⌝ }
+{
+    if !(command::are_whole(command, 1) && command::is_sample(command, 1)) {
+        let end = line::unknown(text);
+        return Told { trace, end };
+    }
+    let v = command::count(command, 0);
+    let x = command::coordinate(command, 1);
+    let y = command::coordinate(command, 2);
+    let answer = trace.correct(xs, ys, cells, v, x, y);
+    let crc = digest::of_all(steps, xs, ys, cells, ranks);
+    changed(text, answer, crc)
+}
+
+// One command, by its operation.
+pub fn carry_out(
+    command: &[u8; 80],
+    steps: &[u32; 256],
+    trace: Trace,
+    xs: &mut [i16],
+    ys: &mut [i16],
+    cells: &mut [u16],
+    ranks: &mut [u8],
+    text: &mut [u8],
+) -> Told
+    ensures { λ r. ⌜ r .end ≤ length (now (text .exit)) ⌝ }
+{
+    let operation = command[0];
+    if operation == 1 {
+        return setup(command, trace, text);
+    }
+    if operation == 3 {
+        return start(command, trace, text);
+    }
+    if operation == 4 {
+        return add(command, steps, trace, xs, ys, cells, ranks, text);
+    }
+    if operation == 5 {
+        return correct(command, steps, trace, xs, ys, cells, ranks, text);
+    }
+    let end = stay(command, steps, trace, xs, ys, cells, ranks, text);
+    Told { trace, end }
+}
+
+// A command that leaves the trace as it is, by its operation.
+fn stay(
+    command: &[u8; 80],
+    steps: &[u32; 256],
+    trace: Trace,
+    xs: &mut [i16],
+    ys: &mut [i16],
+    cells: &mut [u16],
+    ranks: &mut [u8],
+    text: &mut [u8],
+) -> usize
+    ensures { λ r. ⌜ r ≤ length (now (text .exit)) ⌝ }
+{
+    let operation = command[0];
+    if operation == 2 {
+        return poke::poke(command, xs, ys, cells, ranks, text);
+    }
+    if operation == 6 {
+        return ask(command, trace, xs, ys, text);
+    }
+    if operation == 7 {
+        return read(steps, trace, xs, ys, cells, ranks, text);
+    }
+    if operation == 8 {
+        return decode(command, text);
+    }
+    line::unknown(text)
+}

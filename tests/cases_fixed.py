@@ -1,0 +1,222 @@
+"""The replay script and the days of the generated files: boundaries, refusals alone and in pairs, odd input, and
+a fixed choice of the random cases."""
+
+from itertools import combinations, product
+
+from cases_random import (ACROSS, CELL, FAULTS, NEVER_TOGETHER, RANK, UP, command, day, decode_case, foreign_case,
+                          forged_case, grow, own_case, record, refused_case, sample, wild_case)
+from plain import ADD, ASK, BUFS, CORRECT, DECODE, NOT_PERMITTED, POKE, READ, SETUP, START
+
+RISING = tuple(range(1, 17))
+MOST = 2**31 - 1
+
+
+def every_call():
+    """One of each call on a trace, with arguments that a trace of two samples takes."""
+    return command(ADD, 5, 6), command(CORRECT, 1, 7, 8), command(ASK, 0, 1, 1), command(READ)
+
+
+def starts():
+    """Both sides of the bounds of start, the same forged, and calls on what it gives."""
+    yield from every_call()
+    yield command(BUFS, 4, 4, 64, 4)
+    for m, N in product((0, 1, 16, 17), (1, 2, 4, 256, 257)):
+        yield command(START, m, N, *RISING)
+        yield from every_call()
+    for given in ((0, 1), (1, 0), (1, 2), (4, 4), (5, 4), (32767, 32768), (32768, 32769), (32769, 1), (1, MOST)):
+        for m in 1, 2:
+            yield command(START, m, 2, *given, 0, 9, *[0] * 11, MOST)
+            yield command(SETUP, m, 2, 0, *given, 0, 9, *[0] * 11, MOST)
+            yield from every_call()
+    for last in 15, 16, 32768, 32769:
+        yield command(START, 16, 2, *RISING[:15], last)
+    yield command(START, MOST, MOST, *[MOST] * 16)
+    yield from every_call()
+
+
+def poked_trace(m, N, n, lends):
+    """A forged trace of n samples of which the stored ones, and their cells, are good."""
+    yield command(BUFS, *lends)
+    for p in range(min(n, N, lends[ACROSS], lends[UP])):
+        yield command(POKE, ACROSS, p, 10 * p)
+        yield command(POKE, UP, p, p % 2)
+    for k, (i, j) in product(range(1, m + 1), combinations(range(min(n, N)), 2)):
+        yield command(POKE, CELL, (k - 1) * N * N + i * N + j, k)
+    yield command(SETUP, m, N, n, *RISING)
+
+
+def lends():
+    """Buffers exactly long enough and each one short, for n below, at and above N."""
+    for n, short in product((1, 2, 3, 4), (None, ACROSS, UP, CELL, RANK)):
+        lengths = [3, 3, 18, n]
+        if short is not None:
+            lengths[short] -= 1
+        yield from poked_trace(2, 3, n, lengths)
+        yield from every_call()
+    for n in 255, 256, 257, MOST:
+        yield command(BUFS, 256, 256, 65536, 256)
+        yield command(SETUP, 1, 256, n, *RISING)
+        yield from every_call()
+
+
+def refusals(rng):
+    """Each refusal of each call alone, and each two that can meet, with a read after."""
+    for call, numbers in FAULTS.items():
+        pairs = [pair for pair in combinations(numbers, 2) if pair not in NEVER_TOGETHER]
+        for faults in [(), *((number,) for number in numbers for _ in range(3)), *pairs]:
+            yield from refused_case(rng, call, faults)
+            yield command(READ)
+
+
+def coordinates():
+    """Both sides of the bounds of new and of stored coordinates."""
+    edges = 16384, 16385, -16384, -16385, 32767, -32768
+    yield command(BUFS, 16, 16, 512, 16)
+    yield command(START, 2, 16, *RISING)
+    for x, y in [(edge, 0) for edge in edges] + [(0, edge) for edge in edges]:
+        yield command(ADD, x, y)
+        yield command(CORRECT, 0, x, y)
+    for which, place, value in product((ACROSS, UP), (0, 2, 3), edges):
+        yield command(POKE, which, place, value)
+        yield from every_call()[1:]
+        yield command(POKE, which, place, 0)
+
+
+def cell_edges():
+    """Every sort of value in every cell of four samples, each followed by a call."""
+    m, N, n = 3, 5, 4
+    yield from poked_trace(m, N, n, [N, N, m * N * N, N])
+    calls = command(READ), command(CORRECT, 2, 3, 3), command(ASK, 0, 3, 2), command(READ), command(ADD, 16385, 0)
+    turn = 0
+    for k, (i, j) in product(range(1, m + 1), combinations(range(n), 2)):
+        most = 1 + (k - 1) * (j - i)
+        for value in k - 1, k, most, most + 1, NOT_PERMITTED, NOT_PERMITTED - 1:
+            yield command(POKE, CELL, (k - 1) * N * N + i * N + j, value)
+            yield calls[turn % len(calls)]
+            turn += 1
+        yield command(POKE, CELL, (k - 1) * N * N + i * N + j, k)
+
+
+def unread_places(rng):
+    """Values that check 5 would refuse, in places that no call reads."""
+    m, N, n = 2, 5, 3
+    yield from grow(rng, "exact", m, N, n)
+    for k, i, j in product(range(1, m + 1), range(N), range(N)):
+        if i >= j or j >= n:
+            yield command(POKE, CELL, (k - 1) * N * N + i * N + j, rng.choice([0, 999, NOT_PERMITTED, 65534]))
+    for which, place in product((ACROSS, UP), range(n, N)):
+        yield command(POKE, which, place, rng.choice([32767, -32768, 16385]))
+    yield from (command(READ), command(ASK, 0, 2, 1), command(CORRECT, 1, 2, 2), command(ADD, 9, 9), command(READ))
+
+
+def dear_below():
+    """A stretch that is permitted one level finer, but dearer there than a path over the cells found."""
+    N = 5
+    yield command(BUFS, N, N, 3 * N * N, N)
+    yield command(START, 3, N, 1, 5, 16)
+    for p in range(4):
+        yield command(ADD, 10 * p, (0, 4, -4, 4)[p])
+    yield command(POKE, CELL, N * N + 3, 2)
+    yield from (command(ADD, 40, 0), command(READ), command(CORRECT, 4, 41, 0), command(READ))
+
+
+def asks(rng):
+    """Every stretch and level of a trace, and those just outside it."""
+    m, n = 2, 4
+    yield from grow(rng, "exact", m, n + 1, n)
+    for i, j, k in product(range(n + 1), range(n + 1), range(m + 2)):
+        yield command(ASK, i, j, k)
+
+
+def question_marks():
+    """Commands that cannot be taken, and their nearest that can; the reads show that nothing changed."""
+    yield from poked_trace(2, 3, 2, [3, 3, 18, 3])
+    yield command(READ)
+    for operation in 9, 10, 128, 255:
+        yield command(operation)
+    for at in 1, 2, 3:
+        yield command(READ)[:at] + b"\x01" + command(READ)[at + 1:]
+    for bad in (-1, 3, 18, 3), (3, 321, 18, 3), (3, 3, 1048577, 3), (3, 3, 18, 321), (3, 3, -1, 3), (3, 3, 18, -1):
+        yield command(BUFS, *bad)
+    for bad in (-1, 0, 0), (4, 0, 0), (0, -1, 0), (0, 3, 0), (1, 3, 0), (2, 18, 0), (3, 3, 0):
+        yield command(POKE, *bad)
+    for which, low, high in (ACROSS, -32768, 32767), (UP, -32768, 32767), (CELL, 0, 65535), (RANK, 0, 255):
+        for value in low - 1, high + 1, low, high:
+            yield command(POKE, which, 2, value)
+    for at in 0, 1, 2, 3, 18:
+        yield command(SETUP, *[-1 if p == at else 2 for p in range(19)])
+    for at in 0, 1, 2, 17:
+        yield command(START, *[-1 if p == at else 2 for p in range(18)])
+    for bad in (32768, 0), (-32769, 0), (0, 32768), (0, -32769):
+        yield command(ADD, *bad)
+        yield command(CORRECT, 0, *bad)
+    for bad in (-1, 1, 1), (0, -1, 1), (0, 1, -1):
+        yield command(ASK, *bad)
+    yield command(CORRECT, -1, 0, 0)
+    yield command(READ, *[-1] * 19)
+    yield command(ASK, 0, 1, 1, *[-1] * 16)
+    yield command(CORRECT, 0, 4, 4, *[-1] * 16)
+    yield command(ADD, 3, 3, *[-1] * 17)
+    yield command(BUFS, 4, 4, 18, 4, -1)
+    yield command(START, 2, 3, *RISING, -1)
+    yield command(ADD, 1, 1)
+
+
+def decodes(rng):
+    """Boundaries of a record, each spare byte, 6 before 11, and random ones."""
+    edges = 16384, 16385, -16384, -16385, 32767, -32768, -1
+    bodies = [record(x, y, 1) for x, y in product(edges, (0, 16384, -16385))]
+    bodies += [record(10, 1, pause, rank) for pause in (900, 2**31, 2**32 - 1) for rank in (0, 1, 16, 17, 255)]
+    bodies += [record(-2, -3, 4, 5, bytes(at) + value + bytes(6 - at)) for at in range(7) for value in (b"\1", b"\x80")]
+    bodies += [record(16385, 0, 0, 17), record(0, -16385, 0, 0, b"\1" * 7), bytes(16), b"\xff" * 16]
+    for body in bodies:
+        yield bytes([DECODE, 0, 0, 0]) + body + b"\xff" * 60
+    for _ in range(30):
+        yield from decode_case(rng)
+
+
+def full_size(rng):
+    """The largest trace: 256 samples, 16 levels."""
+    yield command(BUFS, 320, 320, 1048576, 320)
+    yield command(START, 16, 256, *RISING[:15], 40)
+    for p in range(256):
+        yield command(ADD, *sample(rng, "saw" if p < 128 else "noisy", p))
+    yield from (command(READ), command(ADD, 0, 0), command(ASK, 0, 255, 16), command(ASK, 3, 9, 16))
+    for v in 255, 250, 128:
+        yield command(CORRECT, v, *sample(rng, "saw", v + 1))
+    yield command(READ)
+
+
+def replay_script(rng):
+    """The whole standard input of replay; its last command is cut short."""
+    parts = [starts(), lends(), refusals(rng), coordinates(), cell_edges(), unread_places(rng), dear_below(),
+             asks(rng), question_marks(), decodes(rng)]
+    parts += [own_case(rng, 7, 3) for _ in range(70)]
+    parts += [own_case(rng, 4, 16) for _ in range(6)]
+    parts += [own_case(rng, 30, 5) for _ in range(10)]
+    parts += [case(rng) for case in (foreign_case, forged_case, wild_case) for _ in range(25)]
+    parts += [full_size(rng)]
+    return b"".join(one for part in parts for one in part) + command(READ)[:79]
+
+
+def counters(*pauses):
+    return b"".join(record(p, -p, pause) for p, pause in enumerate(pauses))
+
+
+def fixed_days(rng):
+    """Days at every bound, with every refusal, and one of each size that dayline takes."""
+    top = 2**32 - 1
+    outside, stained, both = record(0, 16385), record(0, 0, 0, 17), record(-16385, 0, 0, 0, b"\1" * 7)
+    yield from (day(rng, count) for count in (0, 1, 103, 104, 105))
+    yield from (day(rng, 150) + bad + day(rng, 20) for bad in (outside, stained, both))
+    yield from (both, outside + stained, stained + outside, stained + both, day(rng, 1) + stained)
+    yield from (day(rng, count, "noisy") for count in (4096, 4097))
+    yield day(rng, 4095, "noisy") + stained
+    yield day(rng, 4096, "noisy")[:-1]
+    yield day(rng, 4096, "noisy") + b"\0"
+    yield from (bytes(15), bytes(17), bytes(16), bytes(32), outside[:15], outside + b"\0")
+    yield from (counters(500, 900, 120, 200), counters(7, 7, 7), counters(9, 0), counters(top, 0, top, 0, top))
+    yield from (counters(0, top, top - 1, top), counters(top, top), counters(0, 1))
+    yield b"".join(record(3 * p, p % 3, p, p) for p in range(17))
+    for count in range(2, 105):
+        yield day(rng, count)

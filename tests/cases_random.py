@@ -1,0 +1,291 @@
+"""Replay commands and days, random and adversarial, for generate and soak. Every case stands alone."""
+
+import struct
+from itertools import combinations, product
+
+from plain import ADD, ASK, BUFS, CORRECT, DECODE, NOT_PERMITTED, POKE, READ, SETUP, START
+
+ACROSS, UP, CELL, RANK = range(4)
+FAULTS = {  # the refusals that can arise in each call
+    START: (1, 2),
+    ADD: (1, 2, 3, 4, 5, 6, 7),
+    CORRECT: (1, 2, 3, 4, 5, 6, 8),
+    ASK: (1, 2, 3, 4, 5, 8),
+    READ: (1, 2, 3, 4, 5, 9),
+}
+NEVER_TOGETHER = {(4, 7), (4, 9)}
+TASTES = "none", "least", "most", "any"
+KINDS = "equal", "back", "extreme", "line", "exact", "flat", "saw", "noisy"
+
+
+def command(operation, *numbers):
+    return struct.pack("<B3x19i", operation, *numbers, *[0] * (19 - len(numbers)))
+
+
+# ---- Samples and tolerances ----------------------------------------------------------------------------
+
+
+def sample(rng, kind, p):
+    """Sample number p of a trace of this kind."""
+    if kind == "equal":
+        return rng.choice([(3, 4), (3, 4), (0, 0)])
+    if kind == "back":
+        return rng.choice([20, -20, 8, -8]) + 5 * p * rng.choice([1, -1]), rng.randint(-4, 4)
+    if kind == "extreme":
+        ends = -16384, 16384, -16383, 0
+        return rng.choice(ends), rng.choice(ends)
+    if kind == "line":
+        along = rng.randint(-6, 6)
+        return 4 * along, 3 * along + rng.choice([0, 0, 0, 1])
+    if kind == "exact":  # multiples of 5 away from a line, or from its end
+        along, away = rng.randint(-1, 5), rng.randint(-2, 2)
+        return rng.choice([(4 * along - 3 * away, 3 * along + 4 * away), (10 * along, 5 * away)])
+    if kind == "flat":
+        return 10 * p, rng.choice([0, 0, 0, 1, 2])
+    if kind == "saw":
+        return 6 * p, 9 * (p % 5) + rng.randint(-2, 2)
+    return rng.randint(-9, 9), rng.randint(-9, 9)
+
+
+def tolerances(rng, kind, m):
+    """m rising tolerances, and zeros to 16."""
+    if kind == "extreme" and m <= 6:
+        pool = 1, 16383, 16384, 23170, 23171, 32767, 32768
+    elif kind == "exact" and m <= 6:
+        pool = 4, 5, 6, 9, 10, 14, 15, 20
+    else:
+        pool = range(1, 6 + 2 * m)
+    return sorted(rng.sample(pool, m)) + [0] * (16 - m)
+
+
+def legal_cell(rng, k, i, j, taste=None):
+    """A value that a cell of the stretch may hold, whatever the samples."""
+    most = 1 + (k - 1) * (j - i)
+    taste = taste or rng.choice(TASTES)
+    values = {"none": NOT_PERMITTED, "least": k, "most": most, "any": rng.randint(k, most)}
+    return k if j == i + 1 else values[taste]
+
+
+def illegal_cells(k, i, j):
+    values = [k - 1, 2 + (k - 1) * (j - i), NOT_PERMITTED - 1]
+    return values + [NOT_PERMITTED] if j == i + 1 else values
+
+
+# ---- Replay cases --------------------------------------------------------------------------------------
+
+
+def grow(rng, kind, m, N, n, spare=0):
+    """A started trace of n samples, with reads on the way."""
+    yield command(BUFS, N + spare, N, m * N * N + spare, n + spare)
+    yield command(START, m, N, *tolerances(rng, kind, m))
+    for p in range(n):
+        yield command(ADD, *sample(rng, kind, p))
+        if rng.random() < 0.3:
+            yield command(READ)
+
+
+def corrections(rng, kind, n, times):
+    """Corrections of first, last and other samples, some taken back, each followed by a read."""
+    for v in [0, n - 1, *(rng.randrange(n) for _ in range(times))]:
+        yield command(CORRECT, v, *sample(rng, kind, v))
+        yield command(READ)
+        if rng.random() < 0.3:
+            here, there = sample(rng, kind, v), sample(rng, kind, v + 1)
+            for place in here, there, here:
+                yield command(CORRECT, v, *place)
+            yield command(READ)
+
+
+def own_case(rng, most_n, most_m):
+    """A trace with a table of its own."""
+    kind, m, n = rng.choice(KINDS), rng.randint(1, most_m), rng.randint(2, most_n)
+    yield from grow(rng, kind, m, max(n, 2) + rng.randint(0, 2), n, rng.randint(0, 3))
+    yield command(READ)
+    yield from corrections(rng, kind, n, rng.randint(0, 3))
+    asked = list(product(combinations(range(n), 2), range(1, m + 1)))
+    for (i, j), k in asked if rng.random() < 0.1 and n < 8 else rng.sample(asked, min(3, len(asked))):
+        yield command(ASK, i, j, k)
+
+
+def foreign_case(rng):
+    """A trace whose table or samples are changed behind its back, to other legal values."""
+    kind, m, n = rng.choice(KINDS), rng.randint(1, 4), rng.randint(3, 6)
+    N = n + 2
+    yield from grow(rng, kind, m, N, n, 2)
+    cells = list(product(range(1, m + 1), combinations(range(n), 2)))
+    tastes = rng.choice([["none", "least", "least", "least"], rng.choices(TASTES, k=4)])  # each level's cells alike
+    chosen = cells if rng.random() < 0.4 else rng.sample(cells, rng.randint(1, len(cells)))
+    for k, (i, j) in chosen:
+        taste = tastes[k - 1] if chosen is cells else None
+        yield command(POKE, CELL, (k - 1) * N * N + i * N + j, legal_cell(rng, k, i, j, taste))
+    for _ in range(rng.choice([0, 0, 2])):
+        yield command(POKE, rng.choice([ACROSS, UP]), rng.randrange(n), rng.choice([-16384, 16384, 0, 7]))
+    if rng.random() < 0.3:
+        yield command(SETUP, m, N, n, *tolerances(rng, kind, m)[:m], *[rng.randint(0, 9) for _ in range(16 - m)])
+    yield command(READ)
+    for _ in range(rng.randint(2, 4)):
+        if rng.random() < 0.7:
+            yield command(CORRECT, rng.randrange(n), *sample(rng, kind, n))
+        else:
+            yield command(ADD, *sample(rng, kind, n))
+        yield command(READ)
+
+
+def spoiled_tolerances(rng, m, good):
+    bad = list(good)
+    at = rng.randrange(m)
+    bad[at] = rng.choice([0, 32769, 2**31 - 1] + [bad[at - 1], bad[at - 1] - 1] * (at > 0))
+    return bad
+
+
+def spoiled_places(rng, call, m, N, n):
+    """Pokes that make one stored coordinate bad, or one cell where the call checks cells."""
+    pairs = list(combinations(range(min(n, N)), 2))
+    if call == ASK or not pairs or rng.random() < 0.5:
+        place = rng.randrange(min(n, N - 1))
+        yield command(POKE, rng.choice([ACROSS, UP]), place, rng.choice([16385, -16385, 32767, -32768]))
+    else:
+        k, (i, j) = rng.randint(1, m), rng.choice(pairs)
+        yield command(POKE, CELL, (k - 1) * N * N + i * N + j, rng.choice(illegal_cells(k, i, j)))
+
+
+def refused_call(rng, call, faults, n, m):
+    """The call itself, with the faults that lie in its arguments."""
+    x, y = sample(rng, "noisy", 0)
+    if 6 in faults:
+        x, y = rng.choice([(16385, y), (x, 16385), (-16385, y), (x, -16385), (32767, -32768)])
+    if call == ADD:
+        return command(ADD, x, y)
+    if call == CORRECT:
+        v = rng.choice([n, n + 1, 2**31 - 1]) if 8 in faults else rng.randrange(max(n, 1))
+        return command(CORRECT, v, x, y)
+    if call == READ:
+        return command(READ)
+    i, j, k = 0, max(n - 1, 1), rng.randint(1, m)
+    if 8 in faults:
+        i, j, k = rng.choice([(j, j, k), (j, i, k), (i, n, k), (i, j, 0), (i, j, m + 1), (i, 2**31 - 1, k)])
+    return command(ASK, i, j, k)
+
+
+def refused_case(rng, call, faults):
+    """A forged trace with exactly these faults, and the call, which must give the lowest of them (or 0 for none)."""
+    m, n, kind = rng.randint(1, 3), rng.randint(2, 3), rng.choice(KINDS)
+    if 9 in faults:
+        n = 1 if 5 in faults else rng.randint(0, 1)
+    N = n if 7 in faults else max(n, 2) + rng.randint(1, 2)
+    if 4 in faults:
+        n = N + rng.choice([1, 1, 40])
+    lends = [N, N, m * N * N, n if call == READ else 0]
+    if 3 in faults:
+        lends[rng.choice([ACROSS, UP] + [CELL] * (call != ASK) + [RANK] * (call == READ and n > 0))] -= 1
+    yield command(BUFS, *lends)
+    for p in range(min(n, lends[ACROSS], lends[UP])):
+        x, y = sample(rng, kind, p)
+        yield command(POKE, ACROSS, p, x)
+        yield command(POKE, UP, p, y)
+    for k, (i, j) in product(range(1, m + 1), combinations(range(min(n, N)), 2)):
+        yield command(POKE, CELL, (k - 1) * N * N + i * N + j, legal_cell(rng, k, i, j))
+    if 5 in faults:
+        yield from spoiled_places(rng, call, m, N, n)
+    given = tolerances(rng, kind, m)
+    if 2 in faults:
+        given = spoiled_tolerances(rng, m, given)
+    forged = (m, N)
+    if 1 in faults:
+        forged = rng.choice([(0, N), (17, N), (m, 1), (m, 0), (m, 257)])
+    if call == START:
+        yield command(START, *forged, *given)
+    else:
+        yield command(SETUP, *forged, n, *given)
+        yield refused_call(rng, call, faults, n, m)
+
+
+def faults_of(rng, call):
+    """A few faults that can arise together in this call."""
+    chosen = sorted(rng.sample(FAULTS[call], rng.choice([0, 1, 1, 1, 2])))
+    return [f for f in chosen if not any((g, f) in NEVER_TOGETHER for g in chosen)]
+
+
+def forged_case(rng):
+    call = rng.choice(list(FAULTS))
+    yield from refused_case(rng, call, faults_of(rng, call))
+    yield command(READ)
+
+
+def number(rng):
+    return rng.choice([0, 1, 2, 3, rng.randint(-5, 20), rng.randint(-40000, 70000), 2**31 - 1, -2**31])
+
+
+def wild_case(rng):
+    """A trace, then commands of any operation with any numbers; many print a question mark."""
+    yield from grow(rng, rng.choice(KINDS), rng.randint(1, 3), 6, rng.randint(1, 5))
+    for _ in range(rng.randint(5, 15)):
+        operation = rng.choice([POKE, POKE, SETUP, START, ADD, CORRECT, ASK, READ, DECODE, BUFS, rng.randrange(256)])
+        numbers = [number(rng) if rng.random() < 0.3 else rng.randint(0, 6) for _ in range(19)]
+        wild = bytearray(command(operation, *numbers))
+        if rng.random() < 0.03:
+            wild[rng.randint(1, 3)] = rng.randint(1, 255)
+        yield bytes(wild)
+
+
+# ---- Records and days ----------------------------------------------------------------------------------
+
+
+def record(across, up, pause=0, rank=0, spare=bytes(7)):
+    return struct.pack("<hhIB7s", across, up, pause, rank, spare)
+
+
+def bad_record(rng):
+    """A record with a coordinate out of range, a bad rank or spare byte, or both."""
+    outside = rng.choice([(16385, 0), (0, 16385), (-16385, 1), (1, -16385), (-32768, 32767)])
+    stained = rng.choice([(rng.choice([17, 255]), bytes(7)), (0, (1 << 8 * rng.randrange(7)).to_bytes(7, "little"))])
+    return rng.choice([record(*outside), record(1, 2, 3, *stained), record(*outside, 9, *stained)])
+
+
+def decode_case(rng):
+    x, y = rng.choice([(16384, -16384), (-1, 1), sample(rng, "noisy", 0)])
+    good = record(x, y, rng.choice([0, 1, 2**31, 2**32 - 1, rng.getrandbits(32)]), rng.randint(0, 16))
+    body = good if rng.random() < 0.5 else bad_record(rng)
+    yield bytes([DECODE, 0, 0, 0]) + body + bytes(rng.randrange(256) for _ in range(60))
+
+
+def day(rng, count, kind=None):
+    """Good records of one kind, with pause counters that mostly rise, stay or restart."""
+    kind, pause, records = kind or rng.choice(KINDS), rng.choice([0, 500, 2**32 - 1]), []
+    for p in range(count):
+        records.append(record(*sample(rng, kind, p), pause, rng.choice([0, 0, rng.randint(1, 16)])))
+        pause = rng.choice([pause, min(pause + rng.randrange(900), 2**32 - 1), rng.randrange(500), 2**32 - 1])
+    return b"".join(records)
+
+
+def random_day(rng):
+    """Mostly good days of 2 to 104 records; some too short, too long, cut or with bad records."""
+    shape = rng.random()
+    if shape < 0.8:
+        return day(rng, rng.choice([rng.randint(2, 8), rng.randint(2, 40), rng.randint(2, 104)]))
+    if shape < 0.85:
+        return day(rng, rng.choice([0, 1, 104, 105, 150]))
+    if shape < 0.9:
+        return day(rng, rng.randint(0, 30)) + bytes(rng.randint(1, 15))
+    records = [bad_record(rng) if rng.random() < 0.05 else day(rng, 1) for _ in range(rng.randint(1, 200))]
+    records.insert(rng.randint(0, len(records)), bad_record(rng))
+    return b"".join(records)
+
+
+def day_list(several):
+    """The standard input of days."""
+    return b"".join(len(one).to_bytes(4, "little") + one for one in several)
+
+
+# ---- Choice for soak -----------------------------------------------------------------------------------
+
+
+def random_case(rng):
+    """One case of any sort."""
+    sort = rng.choices(["small", "medium", "foreign", "forged", "wild", "decode"], [8, 1, 6, 40, 4, 6])[0]
+    if sort == "small":
+        return own_case(rng, 7, 3) if rng.random() < 0.9 else own_case(rng, 4, 16)
+    if sort == "medium":
+        return own_case(rng, 30, 5)
+    cases = {"foreign": foreign_case, "forged": forged_case, "wild": wild_case, "decode": decode_case}
+    return cases[sort](rng)

@@ -1,0 +1,467 @@
+"""What the programs under test must print, from the definitions alone: plain, exact and slow.
+
+Every answer is worked out here a second time: geometry in whole numbers of any size, families by trying
+every one, refusals row by row. On small traces the least sums are compared with the search over every
+family at each call; a difference stops the program.
+"""
+
+import struct
+import zlib
+from array import array
+from itertools import combinations, pairwise
+from typing import NamedTuple
+
+NOT_PERMITTED = 65_535
+FAMILIES_TRIED = 1_100  # a trace with at most this many ways to rank its samples is compared with the search
+
+# ---- Geometry ------------------------------------------------------------------------------------------
+
+
+def worst_miss(samples, i, j):
+    """The largest squared length of r(q-a) - s(b-a) over the samples q between i and j, and r.
+
+    s of r is how far along the closed segment from a to b the point nearest to q lies.
+    """
+    (ax, ay), (bx, by) = samples[i], samples[j]
+    across, up = bx - ax, by - ay
+    r = across * across + up * up or 1  # a = b: r is 1, s is 0
+    worst = 0
+    for x, y in samples[i + 1:j]:
+        x, y = x - ax, y - ay
+        along = x * across + y * up
+        s = 0 if along < 0 else r if along > r else along
+        dx, dy = r * x - s * across, r * y - s * up
+        miss = dx * dx + dy * dy
+        if miss > worst:
+            worst = miss
+    return worst, r
+
+
+def permitted(samples, i, j, e):
+    worst, r = worst_miss(samples, i, j)
+    return worst <= e * e * r * r
+
+
+def finest_level(samples, i, j, tolerances):
+    """The first level that permits the stretch, one past the last when none does."""
+    worst, r = worst_miss(samples, i, j)
+    return 1 + sum(worst > e * e * r * r for e in tolerances)
+
+
+# ---- Families, by trying every one ---------------------------------------------------------------------
+
+
+def permitted_stretches(samples, tolerances):
+    """For each level, finest first, the set of its permitted stretches."""
+    stretches = list(combinations(range(len(samples)), 2))
+    return [{s for s in stretches if permitted(samples, *s, e)} for e in tolerances]
+
+
+def families(below, stretches):
+    """Every way to choose the levels of `stretches`, finest first, each a sublist of the one below."""
+    if not stretches:
+        yield []
+        return
+    for kept in range(len(below) - 1):
+        for between in combinations(below[1:-1], kept):
+            level = [below[0], *between, below[-1]]
+            if all(pair in stretches[0] for pair in pairwise(level)):
+                for coarser in families(level, stretches[1:]):
+                    yield [level, *coarser]
+
+
+def segments(family):
+    return sum(len(level) - 1 for level in family)
+
+
+def cost(stretches, k, i, j):
+    """Cost of cell (k, i, j), by every family of the samples i to j whose level k is the one segment."""
+    if (i, j) not in stretches[k - 1]:
+        return NOT_PERMITTED
+    alone = families(list(range(i, j + 1)), stretches[:k])
+    return min(segments(family) for family in alone if family[-1] == [i, j])
+
+
+def chosen_family(samples, tolerances):
+    """Of the minimal families the one whose lists, coarsest first, hold the larger number where they differ."""
+    every = list(families(list(range(len(samples))), permitted_stretches(samples, tolerances)))
+    least = min(map(segments, every))
+    return max((family for family in every if segments(family) == least), key=lambda family: family[::-1])
+
+
+def ranks_of(family, n):
+    return [sum(p in level for level in family) for p in range(n)]
+
+
+# ---- The trace and what is lent to its calls -----------------------------------------------------------
+
+
+class Trace(NamedTuple):
+    m: int
+    N: int
+    n: int
+    tolerances: tuple
+
+    def used(self):
+        return self.tolerances[:self.m]
+
+    def place(self, k, i, j):
+        return (k - 1) * self.N * self.N + i * self.N + j
+
+
+class Lent(NamedTuple):
+    across: array
+    up: array
+    table: array
+    ranks: array
+
+    def samples(self, n):
+        return list(zip(self.across[:n], self.up[:n]))
+
+
+NO_TRACE = Trace(0, 0, 0, (0,) * 16)
+
+
+def compare_costs(trace, lent):
+    """Stops when a cell of a small trace with a table of its own is not the cost found by search."""
+    if trace.n < 2 or (trace.m + 1) ** (trace.n - 2) > FAMILIES_TRIED:
+        return
+    stretches = permitted_stretches(lent.samples(trace.n), trace.used())
+    for k in range(1, trace.m + 1):
+        for i, j in combinations(range(trace.n), 2):
+            found, searched = lent.table[trace.place(k, i, j)], cost(stretches, k, i, j)
+            assert found == searched, f"cost {k, i, j} is {found}, by search {searched}: {trace} {lent}"
+
+
+def compare_ranks(trace, lent):
+    """Stops when the ranks read from such a trace are not those of the family found by search."""
+    if (trace.m + 1) ** (trace.n - 2) > FAMILIES_TRIED:
+        return
+    family = chosen_family(lent.samples(trace.n), trace.used())
+    found, searched = list(lent.ranks[:trace.n]), ranks_of(family, trace.n)
+    assert found == searched, f"ranks are {found}, by search {searched}: {trace} {lent}"
+
+
+# ---- Refusals ------------------------------------------------------------------------------------------
+
+
+def lowest(*checks):
+    """The first number whose check applies, 0 when none does. Checks are listed from the lowest number up."""
+    return next((number for number, applies in checks if applies()), 0)
+
+
+def bad_sizes(trace):
+    return not (1 <= trace.m <= 16 and 2 <= trace.N <= 256)
+
+
+def bad_tolerances(trace):
+    used = trace.used()
+    return any(not 1 <= e <= 32_768 for e in used) or any(e <= before for before, e in pairwise(used))
+
+
+def bad_coordinates(*values):
+    return any(not -16_384 <= value <= 16_384 for value in values)
+
+
+def short_coordinates(trace, lent):
+    return min(len(lent.across), len(lent.up)) < trace.N
+
+
+def short_table(trace, lent):
+    return short_coordinates(trace, lent) or len(lent.table) < trace.m * trace.N * trace.N
+
+
+def bad_stored(trace, lent):
+    return bad_coordinates(*lent.across[:trace.n], *lent.up[:trace.n])
+
+
+def bad_cell(trace, table):
+    for k in range(1, trace.m + 1):
+        most = [1 + (k - 1) * length for length in range(1, trace.n)]
+        for i in range(trace.n - 1):
+            at = trace.place(k, i, i + 1)
+            cells = table[at:at + trace.n - 1 - i]
+            outside = [c for c, limit in zip(cells, most) if not k <= c <= limit and c != NOT_PERMITTED]
+            if outside or cells[0] == NOT_PERMITTED:
+                return True
+    return False
+
+
+def setup_checks(trace):
+    return (1, lambda: bad_sizes(trace)), (2, lambda: bad_tolerances(trace))
+
+
+def table_checks(trace, lent):
+    return (*setup_checks(trace),
+            (3, lambda: short_table(trace, lent)),
+            (4, lambda: trace.n > trace.N),
+            (5, lambda: bad_stored(trace, lent) or bad_cell(trace, lent.table)))
+
+
+# ---- Least sums ----------------------------------------------------------------------------------------
+
+
+def least_sums(trace, table, k, first, last):
+    """For each sample from first to last (by its number) the least sum of a path to last over cells of level k."""
+    sums = {last: 0}
+    to_go = [0]  # the same sums in order, from the sample after i to last
+    for i in range(last - 1, first - 1, -1):
+        at = trace.place(k, i, i + 1)
+        steps = table[at:at + last - i]
+        sums[i] = min([step + rest for step, rest in zip(steps, to_go) if step != NOT_PERMITTED])
+        to_go.insert(0, sums[i])
+    return sums
+
+
+def rewrite(trace, lent, v):
+    """Writes the cells of every stretch with i <= v <= j, level 1 first, and returns how many."""
+    samples = lent.samples(trace.n)
+    stretches = [(i, j) for i in range(v + 1) for j in range(max(v, i + 1), trace.n)]
+    finest = {(i, j): finest_level(samples, i, j, trace.used()) for i, j in stretches}
+    for k in range(1, trace.m + 1):
+        for j in range(v, trace.n):
+            sums = least_sums(trace, lent.table, k - 1, 0, j) if k > 1 else dict.fromkeys(range(j), 0)
+            for i in range(min(v + 1, j)):
+                value = 1 + sums[i] if finest[i, j] <= k else NOT_PERMITTED
+                lent.table[trace.place(k, i, j)] = value
+    return trace.m * len(stretches)
+
+
+def best_path(trace, table, k, first, last):
+    """The path of least sum over cells of level k; of equal ones that with the larger number where they differ."""
+    sums = least_sums(trace, table, k, first, last)
+    path = [first]
+    while path[-1] != last:
+        at = path[-1]
+        step = {q: table[trace.place(k, at, q)] for q in range(at + 1, last + 1)}
+        path.append(max(q for q in step if step[q] != NOT_PERMITTED and step[q] + sums[q] == sums[at]))
+    return path
+
+
+# ---- The calls -----------------------------------------------------------------------------------------
+
+
+def start(m, N, tolerances):
+    trace = Trace(m, N, 0, (*tolerances[:m], *[0] * (16 - m)))
+    refusal = lowest(*setup_checks(trace))
+    return (refusal, NO_TRACE) if refusal else (0, trace)
+
+
+def add(trace, lent, x, y):
+    refusal = lowest(*table_checks(trace, lent),
+                     (6, lambda: bad_coordinates(x, y)),
+                     (7, lambda: trace.n == trace.N))
+    if refusal:
+        return refusal, 0, trace
+    lent.across[trace.n], lent.up[trace.n] = x, y
+    longer = trace._replace(n=trace.n + 1)
+    return 0, rewrite(longer, lent, trace.n), longer
+
+
+def correct(trace, lent, v, x, y):
+    refusal = lowest(*table_checks(trace, lent),
+                     (6, lambda: bad_coordinates(x, y)),
+                     (8, lambda: v >= trace.n))
+    if refusal:
+        return refusal, 0
+    lent.across[v], lent.up[v] = x, y
+    return 0, rewrite(trace, lent, v)
+
+
+def ask(trace, lent, i, j, k):
+    refusal = lowest(*setup_checks(trace),
+                     (3, lambda: short_coordinates(trace, lent)),
+                     (4, lambda: trace.n > trace.N),
+                     (5, lambda: bad_stored(trace, lent)),
+                     (8, lambda: i >= j or j >= trace.n or not 1 <= k <= trace.m))
+    if refusal:
+        return refusal, None
+    return 0, permitted(lent.samples(trace.n), i, j, trace.tolerances[k - 1])
+
+
+def read(trace, lent):
+    checks = dict(table_checks(trace, lent))
+    checks[3] = lambda: short_table(trace, lent) or len(lent.ranks) < trace.n
+    refusal = lowest(*checks.items(), (9, lambda: trace.n < 2))
+    if refusal:
+        return refusal, 0, [0] * 16
+    level, family = [0, trace.n - 1], []
+    for k in range(trace.m, 0, -1):
+        level = [0] + [p for gap in pairwise(level) for p in best_path(trace, lent.table, k, *gap)[1:]]
+        family.append(level)
+    ranks = ranks_of(family, trace.n)
+    lent.ranks[:trace.n] = array("B", ranks)
+    counts = [max(sum(rank >= k for rank in ranks) - 1, 0) for k in range(1, 17)]
+    return 0, sum(counts), counts
+
+
+# ---- Records, the pause line and dayline ---------------------------------------------------------------
+
+
+def decode(record):
+    if len(record) != 16:
+        return 10, 0, 0, 0, 0
+    across, up, pause, rank, spare = struct.unpack("<hhIB7s", record)
+    refusal = lowest((6, lambda: bad_coordinates(across, up)), (11, lambda: rank > 16 or any(spare)))
+    return (refusal, 0, 0, 0, 0) if refusal else (0, across, up, pause, rank)
+
+
+def split_records(data):
+    return [data[at:at + 16] for at in range(0, len(data), 16)]
+
+
+def pause_line(data):
+    if len(data) % 16 or len(data) // 16 > 4_096:
+        return 10, 0
+    counters = []
+    for record in split_records(data):
+        refusal, _, _, pause, _ = decode(record)
+        if refusal:
+            return refusal, 0
+        counters.append(pause)
+    return 0, sum(later - earlier if later >= earlier else later for earlier, later in pairwise(counters))
+
+
+def dayline(data):
+    """Everything dayline prints for these bytes."""
+    refusal, pause = pause_line(data)
+    if refusal:
+        return f"refused {refusal}\n"
+    _, trace = start(3, 104, (1, 4, 16) + (0,) * 13)
+    lent = Lent(array("h", [0] * 104), array("h", [0] * 104), array("H", [0] * 32_768), array("B", [0] * 104))
+    for record in split_records(data):
+        _, across, up, _, _ = decode(record)
+        refusal, _, trace = add(trace, lent, across, up)
+        if refusal:
+            return f"refused {refusal}\n"
+    refusal, total, counts = read(trace, lent)
+    if refusal:
+        return f"refused {refusal}\n"
+    compare_costs(trace, lent)
+    compare_ranks(trace, lent)
+    lines = [f"samples {trace.n} levels {trace.m}"]
+    lines += [f"{p} {lent.across[p]} {lent.up[p]} {lent.ranks[p]}" for p in range(trace.n)]
+    lines += [f"segments {total} {counts[0]} {counts[1]} {counts[2]}", f"pause {pause}"]
+    return "\n".join(lines) + "\n"
+
+
+def days(data):
+    """Everything days prints for a list of days."""
+    text, at, number = "", 0, 0
+    while at < len(data):
+        end = at + 4 + int.from_bytes(data[at:at + 4], "little")
+        if end > len(data):
+            return text + "?\n"
+        text += f"day {number}\n" + dayline(data[at + 4:end])
+        at, number = end, number + 1
+    return text
+
+
+# ---- Replay --------------------------------------------------------------------------------------------
+
+BUFS, SETUP, POKE, START, ADD, CORRECT, ASK, READ, DECODE = range(9)
+UNSIGNED, SIGNED16 = (0, 2**31 - 1), (-2**15, 2**15 - 1)
+ARGUMENTS = {  # the range of each number that the operation uses
+    BUFS: [(0, 320), (0, 320), (0, 1_048_576), (0, 320)],
+    SETUP: [UNSIGNED] * 19,
+    POKE: [(0, 3), UNSIGNED, (-2**31, 2**31 - 1)],
+    START: [UNSIGNED] * 18,
+    ADD: [SIGNED16] * 2,
+    CORRECT: [UNSIGNED, SIGNED16, SIGNED16],
+    ASK: [UNSIGNED] * 3,
+    READ: [],
+    DECODE: [],
+}
+POKED = [SIGNED16, SIGNED16, (0, 2**16 - 1), (0, 2**8 - 1)]
+
+
+def filled(kind, length, factor, offset):
+    """A buffer of `length` places, place p holding p·factor + offset wrapped to its type."""
+    bits = 8 * array(kind).itemsize
+    period = array(kind.upper(), ((p * factor + offset) % 2**bits for p in range(min(length, 2**bits))))
+    whole = period * (length // 2**bits + 1)
+    return array(kind, whole[:length].tobytes())
+
+
+class Replay:
+    """The state that replay keeps from command to command."""
+
+    def __init__(self):
+        self.trace = NO_TRACE
+        self.own_table = True  # every cell of the trace was written by calls of this trace
+        self.bufs(0, 0, 0, 0)
+
+    def answer(self, command):
+        """The line that a command prints, None when it prints nothing."""
+        operation = command[0]
+        if len(command) < 80 or any(command[1:4]) or operation not in ARGUMENTS:
+            return "?"
+        if operation == DECODE:
+            return " ".join(map(str, decode(command[4:20])))
+        ranges = ARGUMENTS[operation]
+        numbers = struct.unpack("<19i", command[4:])[:len(ranges)]
+        if any(not low <= number <= high for number, (low, high) in zip(numbers, ranges)):
+            return "?"
+        calls = self.bufs, self.setup, self.poke, self.start, self.add, self.correct, self.ask, self.read
+        return calls[operation](*numbers)
+
+    def checksum(self):
+        value = 0
+        for part in self.lent:
+            value = zlib.crc32(part.tobytes(), value)
+        return value
+
+    def bufs(self, *lengths):
+        LX, LY, LT, LR = lengths
+        self.lent = Lent(filled("h", LX, 7_919, 13), filled("h", LY, 104_729, 29),
+                         filled("H", LT, 40_503, 7), filled("B", LR, 31, 5))
+        self.own_table = self.trace.n == 0
+
+    def setup(self, m, N, n, *tolerances):
+        self.trace = Trace(m, N, n, tolerances)
+        self.own_table = n == 0
+
+    def poke(self, which, place, value):
+        low, high = POKED[which]
+        if place >= len(self.lent[which]) or not low <= value <= high:
+            return "?"
+        self.lent[which][place] = value
+        self.own_table = self.own_table and (which == 3 or self.trace.n == 0)
+
+    def start(self, m, N, *tolerances):
+        refusal, self.trace = start(m, N, tolerances)
+        self.own_table = True
+        given = (refusal, self.trace.m, self.trace.N, self.trace.n, *self.trace.tolerances)
+        return " ".join(map(str, given))
+
+    def add(self, x, y):
+        refusal, cells, self.trace = add(self.trace, self.lent, x, y)
+        return self.changed(refusal, cells)
+
+    def correct(self, v, x, y):
+        return self.changed(*correct(self.trace, self.lent, v, x, y))
+
+    def changed(self, refusal, cells):
+        if not refusal and self.own_table:
+            compare_costs(self.trace, self.lent)
+        return f"{refusal} {cells} {self.trace.n} {self.checksum()}"
+
+    def ask(self, i, j, k):
+        refusal, yes = ask(self.trace, self.lent, i, j, k)
+        return f"{refusal} - -" if refusal else f"0 {int(yes)} -"
+
+    def read(self):
+        refusal, total, counts = read(self.trace, self.lent)
+        if not refusal and self.own_table:
+            compare_ranks(self.trace, self.lent)
+        return " ".join(map(str, (refusal, total, *counts, self.checksum())))
+
+
+def replay(data):
+    """For each command that prints, in order: its number, its operation and its line."""
+    state = Replay()
+    for at in range(0, len(data), 80):
+        command = data[at:at + 80]
+        line = state.answer(command)
+        if line is not None:
+            yield at // 80, command[0], line
