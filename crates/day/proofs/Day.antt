@@ -1,12 +1,12 @@
--- The text of a day is one, and fits the buffer: so what stands in dayline's buffer is the text and no part of it. Assumes nothing.
+-- The text of a day is one, and fits the buffer: so what stands in dayline's buffer is the text and no part of it, of all that was to be read. Assumes nothing.
 use mathlib.Core.Path.{_≡_, refl, sym, ap, subst, _∙_}
-use mathlib.Core.Logic.{_⊎_, inl, inr, ⊎-elim}
-use mathlib.Core.List.{List, [], _∷_, _++_}
-use Prim.Native.Nat.{ℕ, zero, suc, _+_, _*_, _-_, _^_, _≤_, _<_}
+use mathlib.Core.Logic.{inl, inr, ⊎-elim}
+use mathlib.Core.List.{List}
+use Prim.Native.Nat.{ℕ, zero, suc, _*_, _-_, _/_, _≤_, _<_}
 use native.Mathlib.Decide.{decLt}
 use native.Mathlib.Omega.{arith}
 use lib.IntN.{ℤ, pos, negsuc}
-use lib.ListN.{length, take, length-append}
+use lib.ListN.{length, take, length-append, length-take}
 use lib.Seq.{take-all}
 use Rattle.refusal.specs.Check.{First}
 use Rattle.refusal.proofs.Rows.{first-one, first-has}
@@ -16,12 +16,12 @@ use Rattle.family.proofs.Choices.{chosen-one}
 use Rattle.family.proofs.Levels.{ranks-in}
 use Rattle.record.specs.Record.{across, up}
 use Rattle.record.specs.Pause.{pauseSum}
-use Rattle.record.specs.Plain.{RecordsGiven, FileGiven, Placed}
+use Rattle.record.specs.Plain.{RecordsGiven, Misfit, FileGiven, Placed}
 use Rattle.record.proofs.Plain.{file-one}
 use Rattle.record.proofs.Exactly.{file-rows}
-use Rattle.text.specs.Text.{decimal, signedDecimal, Written}
+use Rattle.text.specs.Text.{signedDecimal}
 use Rattle.text.proofs.Decimal.{decimal-length, decimal-most}
-use Rattle.day.specs.Day.{count, DayNumber, DayLevels, DayText, Reported, refusedLine, countsLine, sampleLine, sampleLines, segmentsLine, pauseText, levelsText}
+use Rattle.day.specs.Day.{count, DayNumber, DayLevels, DayText, Reported, refusedLine, sampleLine, sampleLines, levelsText}
 use Rattle.day.proofs.Records.{placed}
 
 -- ---- one number, and one text
@@ -130,3 +130,16 @@ text-fits {s} {t} T = elim (decLt 0 (T .number)) [
 -- ---- so a buffer of 4,096 bytes holds the text
 pub whole-text : {s out out′ : List ℕ} {r : ℕ} → 4096 ≤ length out → Reported s out out′ r → DayText s (take r out′)
 whole-text {s} {out} h R = subst (DayText s) (sym (R .2 .text ∙ take-all (length out) (R .0) (omega (arith, text-fits (R .1))))) (R .1)
+
+-- ---- and of a file it is enough to read 65,537 bytes: one that has more is refused, and so is what was read of it
+long-text : (s : List ℕ) → 65536 < length s → DayText s (refusedLine 10)
+long-text s h = record { number = 10; given = inl (inl (misfit, refl), λ z. omega arith); refused = λ n. refl; done = λ z. absurd (omega arith) }
+  where
+    misfit : Misfit s
+    misfit = elim (decLt 4096 (length s / 16)) [ yes y ↦ inr y | no y ↦ inl (λ z. omega arith) ]
+
+pub read-enough : {s t : List ℕ} → DayText (take 65537 s) t → DayText s t
+read-enough {s} T = elim (decLt 65537 (length s)) [
+  | yes y ↦ subst (DayText s) (day-one (long-text (take 65537 s) (omega (arith, length-take 65537 s))) T) (long-text s (omega arith))
+  | no y ↦ rw (take-all 65537 s (omega arith)) at T
+]

@@ -1,7 +1,7 @@
 -- Adding the records of a file: what holds before the first, one record more, and the number of a day that is full. Assumes nothing.
 use mathlib.Core.Path.{_≡_, refl, sym, ap, subst, _∙_}
-use mathlib.Core.Logic.{_⊎_, inl, inr, ⊎-elim}
-use mathlib.Core.Bool.{true, false, true≢false}
+use mathlib.Core.Logic.{inl, inr, ⊎-elim}
+use mathlib.Core.Bool.{true≢false}
 use mathlib.Core.List.{List, []}
 use Prim.Native.Nat.{ℕ, _+_, _*_, _≤_, _<_}
 use borrow.Author.Count.{below-more}
@@ -13,7 +13,7 @@ use Rattle.refusal.specs.declared.Refusal.{Refusal}
 use Rattle.refusal.specs.declared.Outcome.the-variants.{Done, Refused}
 use Rattle.refusal.specs.Number.{number, code}
 use Rattle.refusal.specs.Check.{First, allBelow}
-use Rattle.refusal.proofs.Rows.{code-one, first-passed, first-taken, numbered}
+use Rattle.refusal.proofs.Rows.{code-one, first-passed, numbered}
 use Rattle.geometry.specs.Coordinate.{InRange}
 use Rattle.record.specs.Record.{across, up}
 use Rattle.record.specs.Pause.{pauseLineOf}

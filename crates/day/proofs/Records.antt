@@ -4,19 +4,17 @@ use mathlib.Core.Logic.{⊎-elim}
 use mathlib.Core.List.{List}
 use Prim.Native.Nat.{ℕ, _*_, _<_}
 use native.Mathlib.Omega.{arith}
-use lib.IntN.{ℤ}
 use mir.Syntax.{w16}
 use mir.Val.{toZ, ofZ}
 use mir.Facts.{toZ-ofZ}
 use Rattle.refusal.specs.declared.Outcome.{Outcome}
 use Rattle.refusal.specs.declared.Outcome.the-variants.{Done}
-use Rattle.refusal.specs.Number.{code}
 use Rattle.refusal.proofs.Plain.{not-refuted, both-decided}
 use Rattle.geometry.proofs.Coordinate.{coordinate-decided}
 use Rattle.geometry.proofs.Move.{narrow}
 use Rattle.record.specs.declared.Decoded.{Decoded}
 use Rattle.record.specs.Record.{across, up, decodeOf, decodedBy}
-use Rattle.record.specs.Pause.{recordBytes, pauseLineOf, pauseSum, lineBy}
+use Rattle.record.specs.Pause.{recordBytes, pauseLineOf, pauseSum}
 use Rattle.record.specs.Plain.{Placed, RecordGiven, FileGiven}
 use Rattle.record.proofs.Bytes.{decode-alone}
 use Rattle.record.proofs.Pause.{file-good, line-by}

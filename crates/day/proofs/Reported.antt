@@ -1,11 +1,11 @@
 -- What is reported of a file: its refusal, or the text of its levels. Assumes nothing.
-use mathlib.Core.Path.{_≡_, refl, sym, ap, subst, _∙_}
-use mathlib.Core.Logic.{_⊎_, inl, inr, ⊎-elim}
-use mathlib.Core.List.{List, [], _∷_, _++_}
+use mathlib.Core.Path.{_≡_, refl, sym, ap, _∙_}
+use mathlib.Core.Logic.{inl, inr, ⊎-elim}
+use mathlib.Core.List.{List}
 use Prim.Native.Nat.{ℕ, _*_, _-_, _≤_, _<_, zero-le}
 use native.Mathlib.Omega.{arith}
 use lib.IntN.{ℤ}
-use lib.ListN.{length, getD}
+use lib.ListN.{length}
 use Rattle.refusal.specs.declared.Refusal.{Refusal}
 use Rattle.refusal.specs.declared.Outcome.{Outcome}
 use Rattle.refusal.specs.declared.Outcome.the-variants.{Done, Refused}
@@ -30,7 +30,7 @@ use Rattle.history.proofs.Sound.{state}
 use Rattle.history.proofs.Follows.{sound-shown, step-number}
 use Rattle.text.specs.Text.{Written}
 use Rattle.text.proofs.Written.{written-as}
-use Rattle.day.specs.Day.{count, tolerances, DayNumber, DayLevels, DayText, Reported, refusedLine, levelsText}
+use Rattle.day.specs.Day.{count, tolerances, DayNumber, DayLevels, Reported, refusedLine, levelsText}
 use Rattle.day.specs.Fill.{dayTrace, Filled, AddsAll, heldText}
 use Rattle.day.proofs.Records.{good-given}
 use Rattle.day.proofs.Filled.{past-trace, filled-across, filled-upward, filled-sound}

@@ -1,6 +1,6 @@
 // The text of a day: its samples with their ranks, the segments and the pause line, or the number of its refusal.
 ghost use mathlib.Core.Path.{_≡_};
-ghost use mathlib.Core.List.{_∷_, _++_};
+ghost use mathlib.Core.List.{_∷_};
 ghost use Prim.Native.Nat.{_*_, _≤_, _<_};
 ghost use lib.ListN.{length, getD};
 ghost use Rattle.refusal.specs.declared.Outcome.the-variants.{Done};
@@ -10,7 +10,7 @@ ghost use Rattle.record.specs.Pause.{pauseLineOf, pauseSum};
 ghost use Rattle.trace.specs.Calls.{AddGives, buffers};
 ghost use Rattle.text.specs.Text.{Written, decimal};
 ghost use Rattle.day.specs.Day.{count, tolerances as dayTolerances, refusedLine, countsLine, sampleLine, pauseText, Reported};
-ghost use Rattle.day.specs.Fill.{dayTrace, Lent, Filled, AddsAll, heldLines, countedLine, heldText};
+ghost use Rattle.day.specs.Fill.{dayTrace, Lent, AddsAll, heldLines, countedLine, heldText};
 use refusal::Outcome;
 use trace::Changed;
 use trace::Levels;

@@ -1,30 +1,26 @@
 -- Decimal numbers: how many digits they have, that the fewest that hold a number are those, and signed ones by their size. Assumes nothing.
-use mathlib.Core.Path.{_≡_, refl, sym, ap, _∙_}
-use mathlib.Core.Bool.{Bool, true, false, cond}
-use mathlib.Core.List.{List, [], _∷_, _++_}
-use Prim.Native.Nat.{ℕ, zero, suc, _+_, _*_, _-_, _/_, _%_, _^_, _≤_, _<_}
-use native.Mathlib.Nat.{pow-suc, pow-zero, pow-le-pow-right, div-lt-iff-lt-mul}
+use mathlib.Core.Path.{_≡_, refl, ap, _∙_}
+use Prim.Native.Nat.{ℕ, zero, suc, _/_, _^_, _≤_, _<_}
+use native.Mathlib.Nat.{pow-suc, pow-zero, pow-le-pow-right}
 use native.Mathlib.Numerals.{sub-one}
 use native.Mathlib.Decide.{decLt}
 use native.Mathlib.Omega.{arith}
-use lib.Dec.{ltb}
-use lib.IntN.{ℤ, pos, negsuc}
 use lib.ListN.{length, length-append}
 use borrow.Author.Tests.{lt-ltb, le-ltb}
 use Rattle.io.specs.Digits.{digits, Fewest}
 use Rattle.text.specs.Text.{places, decimal}
 
 -- ---- how many digits
-few : (f n : ℕ) → n < 10 → places f n ≡ 1
+pub few : (f n : ℕ) → n < 10 → places f n ≡ 1
 unfolding places
 few zero n h = refl
 few (suc f) n h = rw (lt-ltb n 10 h)
 
-one-place : (n : ℕ) → places 0 n ≡ 1
+pub one-place : (n : ℕ) → places 0 n ≡ 1
 unfolding places
 one-place n = refl
 
-many : (f n : ℕ) → 10 ≤ n → places (suc f) n ≡ suc (places f (n / 10))
+pub many : (f n : ℕ) → 10 ≤ n → places (suc f) n ≡ suc (places f (n / 10))
 unfolding places
 many f n h = rw (le-ltb n 10 h)
 

@@ -1,3 +1,4 @@
 pub mod Written
 pub mod Decimal
+pub mod Value
 pub mod Size

@@ -1,5 +1,5 @@
 -- `day::add_all` meets its contract. The invariant: the trace holds i samples, and these are the first i records. The measure is how many are left. Assumes nothing.
-use mathlib.Core.Path.{_≡_, refl, sym}
+use mathlib.Core.Path.{_≡_, refl}
 use Prim.Native.Nat.{_-_, _≤_}
 use native.Mathlib.Omega.{arith}
 use borrow.Author.Needs.{needs}

@@ -1,6 +1,6 @@
 -- `day::add_record` meets its contract: the sample is the file's. Assumes nothing.
 use borrow.Author.Needs.{needs}
-use mathlib.Core.Path.{refl, sym, ap, _∙_}
+use mathlib.Core.Path.{refl, ap, _∙_}
 use Rattle.record.specs.Record.{decodeOf}
 use Rattle.day.proofs.Records.{good-sample}
 use Rattle.day.proofs.add_record.Statement.{statement}

@@ -1,7 +1,6 @@
 -- `day::refused_line` meets its contract. Assumes nothing.
 use borrow.Author.Needs.{needs}
 use Rattle.text.proofs.Written.{written-more}
-use mathlib.Core.Path.{ap}
 use Rattle.day.proofs.refused_line.Statement.{statement}
 use Rattle.day.proofs.refused_line.Tie as tie
 

@@ -1,5 +1,5 @@
 -- `day::report` meets its contract: the file is refused, or its records are good. Assumes nothing.
-use mathlib.Core.Path.{_≡_, refl, sym, ap, _∙_}
+use mathlib.Core.Path.{refl, sym, ap, _∙_}
 use borrow.Author.Needs.{needs}
 use Rattle.record.specs.declared.PauseLine.{PauseLine}
 use Rattle.day.proofs.Records.{good-sum}

@@ -2,9 +2,8 @@
 use Prim.Native.Nat.{_-_, _≤_}
 use native.Mathlib.Omega.{arith}
 use borrow.Author.Needs.{needs}
-use mir.Facts.{toZ-ofZ}
 use Rattle.text.specs.Text.{Written}
-use Rattle.text.proofs.Written.{written-none, written-as}
+use Rattle.text.proofs.Written.{written-none}
 use Rattle.day.specs.Fill.{heldLines}
 use Rattle.day.proofs.Lines.{held-none, held-more}
 use mathlib.Core.Path.{_≡_, refl}

@@ -1,5 +1,9 @@
 -- `dayline::main` meets its contract: the bytes that are written are those that were reported. Assumes nothing.
 use borrow.Author.Needs.{needs}
+use native.Mathlib.Omega.{arith}
+use Rattle.day.proofs.Day.{whole-text}
+use lib.ListN.{take}
+use Rattle.day.specs.Day.{DayText}
 use lib.Seq.{length-take-le}
 use Rattle.dayline.proofs.main.Statement.{statement}
 use Rattle.dayline.proofs.main.Tie as tie
@@ -33,6 +37,10 @@ write-all-requires c κs = search needs
 
 returns : tie.Need-returns
 returns c = search needs
+
+-- at the write, the bytes lent to it are the whole text of the bytes that were read
+printed : (c : tie.After-report) → let got = c .before .before .before .before .read-full in DayText (take (got .result) (got .last .1 .0)) (take (c .report .result) (c .report .last .1 .0))
+printed c = whole-text (omega arith) (c .report .ensures .0)
 
 pub main-spec : {M : Type 1} → statement M
 main-spec =
