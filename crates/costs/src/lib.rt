@@ -19,8 +19,8 @@ fn sums_to(table: &[u16], cap: usize, k: usize, j: usize) -> [u32; 256]
     let mut p = j;
     while 0 < p {
         p -= 1;
-        let stop = table::best_stop(table, &sums, cap, k, p, j);
-        sums[p] = stop.sum;
+        let sum = table::least_sum(table, &sums, cap, k, p, j);
+        sums[p] = sum;
     }
     sums
 }

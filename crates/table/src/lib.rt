@@ -1,7 +1,7 @@
 // The table of costs: where a cell stands, check 5 of the cells that a trace holds, and the chosen step of a path over one level's cells.
 ghost use mathlib.Core.Path.{_≡_};
 ghost use mathlib.Core.Bool.{_&&_};
-ghost use Prim.Native.Nat.{ℕ, _+_, _*_, _≤_, _<_};
+ghost use Prim.Native.Nat.{ℕ, _+_, _*_, _≤_, _<_, min};
 ghost use lib.ListN.{length, getD};
 ghost use Rattle.table.specs.Table.{at, cell};
 ghost use Rattle.table.specs.Path.{SumAt, Stopped};
@@ -99,6 +99,30 @@ pub fn cost_at(table: &[u16], cap: usize, k: usize, i: usize, j: usize) -> u32
 {
     let a = cell_at(cap, k, i, j);
     table[a] as u32
+}
+
+// The lesser of two sums.
+fn lesser(a: u32, b: u32) -> u32
+    ensures { λ r. ⌜ r ≡ min a b ⌝ }
+{
+    if a < b { a } else { b }
+}
+
+// The least sum from p to j over the cells of level k, where sums has the least sums from the places between. The loop goes up, along the row, and keeps no stop: it
+// is compiled to many cells at a time so.
+pub fn least_sum(table: &[u16], sums: &[u32; 256], cap: usize, k: usize, p: usize, j: usize) -> u32
+    requires { ⌜ (1 ≤ k) × (k ≤ 16) × (cap ≤ 256) × (p < j) × (j < cap) ⌝ }
+    requires { ⌜ k * (cap * cap) ≤ length (now table) ⌝ }
+    requires { ⌜ ((x : ℕ) → p < x → x < j → SumAt (cell (now table) cap k) x j (getD (now sums) x 0)) ⌝ }
+    ensures { λ r. ⌜ SumAt (cell (now (table .entry)) cap k) p j r ⌝ }
+{
+    let mut sum = cost_at(table, cap, k, p, j);
+    let mut x = p + 1;
+    while x < j {
+        sum = lesser(cost_at(table, cap, k, p, x) + sums[x], sum);
+        x += 1;
+    }
+    sum
 }
 
 // The least sum of a path, and where it goes first.

@@ -22,8 +22,8 @@ loop-holds c = (λ q a b. sums-end _ (c .before .args .j) q (omega arith) _ (zer
 sub-p : tie.Need-sub-p Inv-loop μ-loop
 sub-p c = omega arith
 
-best-stop-requires : tie.Need-best-stop-requires Inv-loop μ-loop
-best-stop-requires c κs =
+least-sum-requires : tie.Need-least-sum-requires Inv-loop μ-loop
+least-sum-requires c κs =
     let l = c .before .before in
     (omega arith, (l .before .before .pre .1, λ x a b. l .loop .inv .0 x (omega arith) (omega arith)))
 
@@ -40,7 +40,7 @@ loop-again : tie.Need-loop-again Inv-loop μ-loop
 loop-again c =
     let l = c .before .before .before in
     let a = l .before .before .args in (
-      filled (λ q s. SumAt (cell (a .table .now) (a .cap) (a .k)) q (a .j) s) (λ q. q ≤ a .j) (l .loop .sums) (l .loop .p - 1) _ (omega arith) (c .best-stop .ensures .sum-at) (λ q x y. l .loop .inv .0 q (omega arith) y),
+      filled (λ q s. SumAt (cell (a .table .now) (a .cap) (a .k)) q (a .j) s) (λ q. q ≤ a .j) (l .loop .sums) (l .loop .p - 1) _ (omega arith) (c .least-sum .ensures) (λ q x y. l .loop .inv .0 q (omega arith) y),
       omega arith,
       simp length-set (l .loop .inv .2),
     )
@@ -56,7 +56,7 @@ sums-to-spec =
     μ-loop
     loop-holds
     sub-p
-    best-stop-requires
+    least-sum-requires
     mul-sums
     array-write-sums
     loop-less
