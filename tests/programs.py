@@ -1,7 +1,10 @@
-"""Where the programs that `rt check` builds are, and how to run them on this machine."""
+"""Where the programs that `rt check` builds are, and how to run them on this machine.
+programs.py NAME runs one, its standard input and output those of the caller."""
 
+import os
 import platform
 import subprocess
+import sys
 from functools import cache
 from pathlib import Path
 
@@ -30,3 +33,8 @@ def launcher():
 
 def command(program):
     return [*launcher(), BIN / program]
+
+
+if __name__ == "__main__":
+    words = command(sys.argv[1])
+    os.execv(words[0], words)

@@ -55,11 +55,14 @@ unfoldable pub sampleLines : List ℕ → (ℕ → List ℕ) → ℕ → List �
 sampleLines s L zero = []
 sampleLines s L (suc n) = sampleLines s L n ++ sampleLine n (across s (16 * n)) (up s (16 * n)) (ranks L 3 n)
 
--- "segments ", their total, and the count of levels 1, 2, 3
+-- "segments ", a total and three counts
+abbrev pub countedLine : ℕ → ℕ → ℕ → ℕ → List ℕ
+countedLine total a b c =
+    (115 ∷ 101 ∷ 103 ∷ 109 ∷ 101 ∷ 110 ∷ 116 ∷ 115 ∷ 32 ∷ decimal total) ++ (32 ∷ decimal a) ++ (32 ∷ decimal b) ++ (32 ∷ decimal c) ++ (10 ∷ [])
+
+-- those of the levels L: 1, 2, 3
 abbrev pub segmentsLine : (ℕ → List ℕ) → List ℕ
-segmentsLine L =
-    (115 ∷ 101 ∷ 103 ∷ 109 ∷ 101 ∷ 110 ∷ 116 ∷ 115 ∷ 32 ∷ decimal (size L 3)) ++ (32 ∷ decimal (length (L 1) - 1)) ++ (32 ∷ decimal (length (L 2) - 1))
-    ++ (32 ∷ decimal (length (L 3) - 1)) ++ (10 ∷ [])
+segmentsLine L = countedLine (size L 3) (length (L 1) - 1) (length (L 2) - 1) (length (L 3) - 1)
 
 -- "pause ", the line in milliseconds
 abbrev pub pauseText : ℕ → List ℕ

@@ -14,8 +14,7 @@ use Rattle.record.specs.Record.{across, up}
 use Rattle.trace.specs.declared.Trace.{Trace}
 use Rattle.trace.specs.declared.Changed.{Changed}
 use Rattle.trace.specs.declared.Levels.{Levels}
-use Rattle.text.specs.Text.{decimal}
-use Rattle.day.specs.Day.{count, tolerances, countsLine, sampleLine, pauseText}
+use Rattle.day.specs.Day.{count, tolerances, countsLine, sampleLine, countedLine, pauseText}
 
 -- the day's setup, with n samples
 abbrev pub dayTrace : ℕ → Trace
@@ -42,11 +41,6 @@ pub record AddsAll (s : List ℕ) (r : Changed) (xs ys : List ℤ) (t : List ℕ
 unfoldable pub heldLines : List ℤ → List ℤ → List ℕ → ℕ → List ℕ
 heldLines xs ys bytes zero = []
 heldLines xs ys bytes (suc n) = heldLines xs ys bytes n ++ sampleLine n (getD xs n (pos 0)) (getD ys n (pos 0)) (getD bytes n 0)
-
--- "segments ", a total and three counts
-abbrev pub countedLine : ℕ → ℕ → ℕ → ℕ → List ℕ
-countedLine total a b c =
-    (115 ∷ 101 ∷ 103 ∷ 109 ∷ 101 ∷ 110 ∷ 116 ∷ 115 ∷ 32 ∷ decimal total) ++ (32 ∷ decimal a) ++ (32 ∷ decimal b) ++ (32 ∷ decimal c) ++ (10 ∷ [])
 
 -- the whole text
 abbrev pub heldText : List ℤ → List ℤ → List ℕ → ℕ → Levels → ℕ → List ℕ

@@ -9,8 +9,8 @@ ghost use Rattle.record.specs.Record.{across, up};
 ghost use Rattle.record.specs.Pause.{pauseLineOf, pauseSum};
 ghost use Rattle.trace.specs.Calls.{AddGives, buffers};
 ghost use Rattle.text.specs.Text.{Written, decimal};
-ghost use Rattle.day.specs.Day.{count, tolerances as dayTolerances, refusedLine, countsLine, sampleLine, pauseText, Reported};
-ghost use Rattle.day.specs.Fill.{dayTrace, Lent, AddsAll, heldLines, countedLine, heldText};
+ghost use Rattle.day.specs.Day.{count, tolerances as dayTolerances, refusedLine, countsLine, sampleLine, countedLine, pauseText, Reported};
+ghost use Rattle.day.specs.Fill.{dayTrace, Lent, AddsAll, heldLines, heldText};
 use refusal::Outcome;
 use trace::Changed;
 use trace::Levels;
@@ -23,8 +23,10 @@ pub const CAPACITY: usize = 104;
 
 pub const CELLS: usize = 32768;
 
-// The bytes of a day's text at the most.
-pub const TEXT_MOST: usize = 4096;
+// Room for a day's text, and for as much of a file as tells that it is too long.
+pub const TEXT_ROOM: usize = 4096;
+
+pub const FILE_ROOM: usize = 65537;
 
 fn tolerances() -> [u32; 16]
     ensures { λ r. ⌜ r ≡ dayTolerances ⌝ }

@@ -3,9 +3,9 @@ use libc::STDIN_FILENO;
 use libc::STDOUT_FILENO;
 
 fn main() {
-    let mut file = [0u8; 65537];
+    let mut file = [0u8; day::FILE_ROOM];
     let n = io::read_full(STDIN_FILENO, &mut file);
-    let mut out = [0u8; 4096];
+    let mut out = [0u8; day::TEXT_ROOM];
     let k = day::report(&file[..n], &mut out);
     io::write_all(STDOUT_FILENO, &out[..k]);
 }

@@ -25,7 +25,7 @@ fn print_day(number: u64, file: &[u8]) {
     let at = text::number(&mut head, at, number);
     let end = text::byte(&mut head, at, b'\n');
     io::write_all(STDOUT_FILENO, &head[..end]);
-    let mut out = [0u8; 4096];
+    let mut out = [0u8; day::TEXT_ROOM];
     let k = day::report(file, &mut out);
     io::write_all(STDOUT_FILENO, &out[..k]);
 }
