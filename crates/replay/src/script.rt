@@ -2,6 +2,7 @@
 ghost use mathlib.Core.Path.{_≡_};
 ghost use Prim.Native.Nat.{_≤_};
 ghost use lib.ListN.{length};
+ghost use Rattle.replay.specs.Lent.{Within};
 use crate::calls;
 use crate::command;
 use crate::fill;
@@ -59,8 +60,8 @@ fn bufs(
     ranks: &mut [u8],
     text: &mut [u8],
 ) -> State
-    requires { ⌜ (state .xs ≤ length (now xs)) × (state .ys ≤ length (now ys)) × (state .cells ≤ length (now cells)) × (state .ranks ≤ length (now ranks)) ⌝ }
-    ensures { λ r. ⌜ (r .xs ≤ length (now (xs .exit))) × (r .ys ≤ length (now (ys .exit))) × (r .cells ≤ length (now (cells .exit))) × (r .ranks ≤ length (now (ranks .exit))) × (r .end ≤ length (now (text .exit))) ⌝ }
+    requires { ⌜ Within state (now xs) (now ys) (now cells) (now ranks) ⌝ }
+    ensures { λ r. ⌜ Within r (now (xs .exit)) (now (ys .exit)) (now (cells .exit)) (now (ranks .exit)) × (r .end ≤ length (now (text .exit))) ⌝ }
 {
     let lx = command::count(command, 0);
     let ly = command::count(command, 1);
@@ -104,8 +105,8 @@ fn obey(
     ranks: &mut [u8],
     text: &mut [u8],
 ) -> State
-    requires { ⌜ (state .xs ≤ length (now xs)) × (state .ys ≤ length (now ys)) × (state .cells ≤ length (now cells)) × (state .ranks ≤ length (now ranks)) ⌝ }
-    ensures { λ r. ⌜ (r .xs ≤ length (now (xs .exit))) × (r .ys ≤ length (now (ys .exit))) × (r .cells ≤ length (now (cells .exit))) × (r .ranks ≤ length (now (ranks .exit))) × (r .end ≤ length (now (text .exit))) ⌝ }
+    requires { ⌜ Within state (now xs) (now ys) (now cells) (now ranks) ⌝ }
+    ensures { λ r. ⌜ Within r (now (xs .exit)) (now (ys .exit)) (now (cells .exit)) (now (ranks .exit)) × (r .end ≤ length (now (text .exit))) ⌝ }
 {
     if !command::is_plain(command) {
         return unknown(state, text);
@@ -161,8 +162,8 @@ fn turn(
     cells: &mut [u16],
     ranks: &mut [u8],
 ) -> State
-    requires { ⌜ (state .xs ≤ length (now xs)) × (state .ys ≤ length (now ys)) × (state .cells ≤ length (now cells)) × (state .ranks ≤ length (now ranks)) ⌝ }
-    ensures { λ r. ⌜ (r .xs ≤ length (now (xs .exit))) × (r .ys ≤ length (now (ys .exit))) × (r .cells ≤ length (now (cells .exit))) × (r .ranks ≤ length (now (ranks .exit))) ⌝ }
+    requires { ⌜ Within state (now xs) (now ys) (now cells) (now ranks) ⌝ }
+    ensures { λ r. ⌜ Within r (now (xs .exit)) (now (ys .exit)) (now (cells .exit)) (now (ranks .exit)) ⌝ }
 {
     let mut text = [0u8; 512];
     let next = obey(command, steps, state, xs, ys, cells, ranks, &mut text);

@@ -1,13 +1,14 @@
--- `replay::script::run` is safe and ends. Assumes nothing.
+-- `replay::script::run` is safe and ends. The loop's invariant: the buffers keep their lengths, and what is lent stays within them. Assumes nothing.
 use mathlib.Core.Path.{_≡_}
-use Prim.Native.Nat.{_≤_}
 use lib.ListN.{length}
 use borrow.Author.Needs.{needs}
+use Rattle.replay.specs.Lent.{Within}
 use Rattle.replay.proofs.script.run.Statement.{statement}
 use Rattle.replay.proofs.script.run.Tie as tie
 
 abbrev Inv-loop : tie.InvT-loop
-Inv-loop steps xs₀ ys₀ cells₀ ranks₀ command₀ state₀ turns₀ xs ys cells ranks command state turns = (length xs ≡ length xs₀) × (length ys ≡ length ys₀) × (length cells ≡ length cells₀) × (length ranks ≡ length ranks₀) × (state .xs ≤ length xs) × (state .ys ≤ length ys) × (state .cells ≤ length cells) × (state .ranks ≤ length ranks)
+Inv-loop steps xs₀ ys₀ cells₀ ranks₀ command₀ state₀ turns₀ xs ys cells ranks command state turns =
+    (length xs ≡ length xs₀) × (length ys ≡ length ys₀) × (length cells ≡ length cells₀) × (length ranks ≡ length ranks₀) × Within state xs ys cells ranks
 
 abbrev μ-loop : tie.MeasureT-loop
 μ-loop steps xs₀ ys₀ cells₀ ranks₀ command₀ state₀ turns₀ xs ys cells ranks command state turns = turns
