@@ -11,7 +11,7 @@ use trace::Changed;
 use trace::Trace;
 
 // A trace after a command, and where the line of its answer ends.
-pub struct Told {
+pub(crate) struct Told {
     pub trace: Trace,
     pub end: usize,
 }
@@ -197,7 +197,7 @@ fn correct(
 }
 
 // One command, by its operation.
-pub fn carry_out(
+pub(crate) fn carry_out(
     command: &[u8; 80],
     steps: &[u32; 256],
     trace: Trace,

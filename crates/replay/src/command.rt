@@ -2,10 +2,10 @@
 ghost use Prim.Native.Nat.{_<_, _≤_};
 
 // The numbers of a command.
-pub const NUMBERS: usize = 19;
+pub(crate) const NUMBERS: usize = 19;
 
 // Whether the bytes after the operation are zero.
-pub fn is_plain(command: &[u8; 80]) -> bool {
+pub(crate) fn is_plain(command: &[u8; 80]) -> bool {
     command[1] == 0 && command[2] == 0 && command[3] == 0
 }
 
@@ -16,7 +16,7 @@ fn wide(b: u8) -> u32
 }
 
 // The bits of number k.
-pub fn bits(command: &[u8; 80], k: usize) -> u32
+pub(crate) fn bits(command: &[u8; 80], k: usize) -> u32
     requires { ⌜ k < 19 ⌝ }
 {
     let p = 4 + 4 * k;
@@ -26,17 +26,17 @@ pub fn bits(command: &[u8; 80], k: usize) -> u32
 }
 
 // Whether bits are those of a number that is not negative.
-pub fn is_whole(bits: u32) -> bool {
+pub(crate) fn is_whole(bits: u32) -> bool {
     bits < 2147483648
 }
 
 // Whether bits are those of a number of 16 bits.
-pub fn is_short(bits: u32) -> bool {
+pub(crate) fn is_short(bits: u32) -> bool {
     bits < 32768 || 4294934528 <= bits
 }
 
 // Whether the numbers below n are not negative.
-pub fn are_whole(command: &[u8; 80], n: usize) -> bool
+pub(crate) fn are_whole(command: &[u8; 80], n: usize) -> bool
     requires { ⌜ n ≤ 19 ⌝ }
 {
     let mut k = 0;
@@ -50,28 +50,28 @@ pub fn are_whole(command: &[u8; 80], n: usize) -> bool
 }
 
 // Whether numbers k and k + 1 are of 16 bits.
-pub fn is_sample(command: &[u8; 80], k: usize) -> bool
+pub(crate) fn is_sample(command: &[u8; 80], k: usize) -> bool
     requires { ⌜ k < 18 ⌝ }
 {
     is_short(bits(command, k)) && is_short(bits(command, k + 1))
 }
 
 // Number k as a coordinate, and as a count.
-pub fn coordinate(command: &[u8; 80], k: usize) -> i16
+pub(crate) fn coordinate(command: &[u8; 80], k: usize) -> i16
     requires { ⌜ k < 19 ⌝ }
 {
     let low = bits(command, k) % 65536;
     record::from_bits(low as u16)
 }
 
-pub fn count(command: &[u8; 80], k: usize) -> usize
+pub(crate) fn count(command: &[u8; 80], k: usize) -> usize
     requires { ⌜ k < 19 ⌝ }
 {
     bits(command, k) as usize
 }
 
 // Sixteen tolerances from number k on.
-pub fn tolerances(command: &[u8; 80], k: usize) -> [u32; 16]
+pub(crate) fn tolerances(command: &[u8; 80], k: usize) -> [u32; 16]
     requires { ⌜ k ≤ 3 ⌝ }
 {
     let mut out: [u32; 16] = [0; 16];

@@ -1,7 +1,7 @@
 // CRC-32 of the lent buffers, low byte first.
 
 // What one byte does to the digest, for each byte.
-pub fn steps() -> [u32; 256] {
+pub(crate) fn steps() -> [u32; 256] {
     let mut out: [u32; 256] = [0; 256];
     let mut b: u32 = 0;
     while b < 256 {
@@ -86,7 +86,13 @@ fn of_ranks(steps: &[u32; 256], c: u32, s: &[u8]) -> u32 {
 }
 
 // The digest of across, up, cells and ranks.
-pub fn of_all(steps: &[u32; 256], xs: &[i16], ys: &[i16], cells: &[u16], ranks: &[u8]) -> u32 {
+pub(crate) fn of_all(
+    steps: &[u32; 256],
+    xs: &[i16],
+    ys: &[i16],
+    cells: &[u16],
+    ranks: &[u8],
+) -> u32 {
     let across = of_coordinates(steps, 0xFFFFFFFF, xs);
     let both = of_coordinates(steps, across, ys);
     let table = of_cells(steps, both, cells);

@@ -16,15 +16,15 @@ fn fill(s: &mut [i16], start: u16, step: u32) {
     }
 }
 
-pub fn across(s: &mut [i16]) {
+pub(crate) fn across(s: &mut [i16]) {
     fill(s, 13, 7919);
 }
 
-pub fn up(s: &mut [i16]) {
+pub(crate) fn up(s: &mut [i16]) {
     fill(s, 29, 104729);
 }
 
-pub fn cells(s: &mut [u16]) {
+pub(crate) fn cells(s: &mut [u16]) {
     let mut v = 7;
     let mut p = 0;
     while p < s.len() {
@@ -40,7 +40,7 @@ fn next_rank(v: u8) -> u8 {
     sum as u8
 }
 
-pub fn ranks(s: &mut [u8]) {
+pub(crate) fn ranks(s: &mut [u8]) {
     let mut v = 5;
     let mut p = 0;
     while p < s.len() {

@@ -4,21 +4,21 @@ ghost use lib.ListN.{length};
 use refusal::Outcome;
 
 // The line of a command that is none.
-pub fn unknown(line: &mut [u8]) -> usize
+pub(crate) fn unknown(line: &mut [u8]) -> usize
     ensures { λ r. ⌜ r ≤ length (now (line .exit)) ⌝ }
 {
     text::bytes(line, 0, b"?\n")
 }
 
 // The number of an outcome.
-pub fn first(line: &mut [u8], o: Outcome) -> usize
+pub(crate) fn first(line: &mut [u8], o: Outcome) -> usize
     ensures { λ r. ⌜ r ≤ length (now (line .exit)) ⌝ }
 {
     text::number(line, 0, refusal::number(o) as u64)
 }
 
 // A number more.
-pub fn next(line: &mut [u8], at: usize, n: u64) -> usize
+pub(crate) fn next(line: &mut [u8], at: usize, n: u64) -> usize
     requires { ⌜ at ≤ length (now line) ⌝ }
     ensures { λ r. ⌜ r ≤ length (now (line .exit)) ⌝ }
 {
@@ -27,7 +27,7 @@ pub fn next(line: &mut [u8], at: usize, n: u64) -> usize
 }
 
 // A signed number more.
-pub fn next_signed(line: &mut [u8], at: usize, z: i16) -> usize
+pub(crate) fn next_signed(line: &mut [u8], at: usize, z: i16) -> usize
     requires { ⌜ at ≤ length (now line) ⌝ }
     ensures { λ r. ⌜ r ≤ length (now (line .exit)) ⌝ }
 {
@@ -36,7 +36,7 @@ pub fn next_signed(line: &mut [u8], at: usize, z: i16) -> usize
 }
 
 // Sixteen numbers more.
-pub fn sixteen(line: &mut [u8], at: usize, numbers: [u32; 16]) -> usize
+pub(crate) fn sixteen(line: &mut [u8], at: usize, numbers: [u32; 16]) -> usize
     requires { ⌜ at ≤ length (now line) ⌝ }
     ensures { λ r. ⌜ r ≤ length (now (line .exit)) ⌝ }
 {
@@ -50,7 +50,7 @@ pub fn sixteen(line: &mut [u8], at: usize, numbers: [u32; 16]) -> usize
 }
 
 // The end of the line.
-pub fn end(line: &mut [u8], at: usize) -> usize
+pub(crate) fn end(line: &mut [u8], at: usize) -> usize
     requires { ⌜ at ≤ length (now line) ⌝ }
     ensures { λ r. ⌜ r ≤ length (now (line .exit)) ⌝ }
 {

@@ -70,7 +70,7 @@ fn taken(
 }
 
 // Carry the command out; a bad one has a line.
-pub fn poke(
+pub(crate) fn poke(
     command: &[u8; 80],
     xs: &mut [i16],
     ys: &mut [i16],

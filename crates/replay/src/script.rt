@@ -173,7 +173,7 @@ fn turn(
 }
 
 // Carry out the commands of standard input. A proved loop has to end, so it counts down from a number that no script uses up.
-pub fn run(
+pub(crate) fn run(
     steps: &[u32; 256],
     xs: &mut [i16],
     ys: &mut [i16],
