@@ -1,4 +1,4 @@
--- Decimal numbers: how many digits they have, that the fewest that hold a number are those, and signed ones by their size. Assumes nothing.
+-- Decimal numbers: how many digits they have, and that the fewest that hold a number are those. Assumes nothing.
 use mathlib.Core.Path.{_≡_, refl, ap, _∙_}
 use Prim.Native.Nat.{ℕ, zero, suc, _/_, _^_, _≤_, _<_}
 use native.Mathlib.Nat.{pow-suc, pow-zero, pow-le-pow-right}
