@@ -21,6 +21,7 @@ use Rattle.record.proofs.Plain.{file-one}
 use Rattle.record.proofs.Exactly.{file-rows}
 use Rattle.text.specs.Text.{signedDecimal}
 use Rattle.text.proofs.Decimal.{decimal-length, decimal-most}
+use Rattle.text.proofs.Written.{written-as, written-one}
 use Rattle.day.specs.Day.{count, DayNumber, DayLevels, DayText, Reported, refusedLine, sampleLine, sampleLines, levelsText}
 use Rattle.day.proofs.Records.{placed}
 
@@ -53,6 +54,10 @@ day-one {s} T U =
           let c = chosen-one _ 3 0 (count s - 1) (a .0) (b .0) (a .1) (b .1) in
           a .2 ∙ levels-one s (a .0) (b .0) (c 1 (omega arith) (omega arith)) (c 2 (omega arith) (omega arith)) (c 3 (omega arith) (omega arith)) ∙ sym (b .2))
     ]
+
+-- so any two reports of a file into a buffer leave the same bytes and end at the same place
+pub report-one : {s out o p : List ℕ} {r q : ℕ} → Reported s out o r → Reported s out p q → (r ≡ q) × (o ≡ p)
+report-one R S = written-one (omega arith) (R .2) (written-as (day-one (S .1) (R .1)) (S .2))
 
 -- ---- how long it is
 abbrev Small : ℕ → Type 0

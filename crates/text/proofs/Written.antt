@@ -4,7 +4,7 @@ use mathlib.Core.List.{List, [], _∷_, _++_, append-assoc, append-nil}
 use Prim.Native.Nat.{ℕ, zero, suc, _+_, _-_, _≤_, _<_, min}
 use native.Mathlib.Numerals.{add-one}
 use native.Mathlib.Omega.{arith}
-use lib.ListN.{length, take, drop, set, getD, length-append, length-take, length-set}
+use lib.ListN.{length, take, drop, set, getD, length-append, length-take, length-set, take-append-drop}
 use lib.Seq.{take-all, take-suc, take-take, take-append-le, take-suc-set, drop-set-lt, drop-drop, length-take-le}
 use Rattle.text.specs.Text.{Written}
 
@@ -19,6 +19,12 @@ pub written-end : {out : List ℕ} {at : ℕ} {t out′ : List ℕ} {r : ℕ} �
 written-end {out} {at} {t} {out′} {r} h W =
     sym (length-take-le r out′ (W .fits)) ∙ ap length (W .text)
     ∙ simp (length-take, length-append) (omega arith)
+
+-- so what a writer leaves, and where the text ends, is one
+pub written-one : {out : List ℕ} {at : ℕ} {t o p : List ℕ} {r s : ℕ} → at ≤ length out → Written out at t o r → Written out at t p s → (r ≡ s) × (o ≡ p)
+written-one {out} {at} {t} {o} {p} {r} {s} h W X =
+    let e : r ≡ s = written-end h W ∙ sym (written-end h X) in
+    (e, sym (take-append-drop r o) ∙ rw (W .text, W .rest, e, ← X .text, ← X .rest) (take-append-drop s p))
 
 -- ---- nothing, and one byte, which has room or has none
 pub written-none : {out : List ℕ} {at : ℕ} → at ≤ length out → Written out at [] out at

@@ -1,5 +1,5 @@
 -- `table::row_ok` meets its contract. The loop's invariant: whether every cell passed may hold what it holds, and the most that the last may be. Assumes nothing.
-use mathlib.Core.Path.{_≡_, refl, sym, _∙_}
+use mathlib.Core.Path.{_≡_, sym}
 use Prim.Native.Nat.{ℕ, _+_, _-_, _*_, _≤_}
 use native.Mathlib.Nat.{mul-le-mul}
 use native.Mathlib.Omega.{arith}
