@@ -66,11 +66,16 @@ impl Trace {
         Ok(self.place(lent, v, x, y))
     }
 
-    /// Whether stretch (i, j) is permitted at level k.
-    fn ask(&self, lent: &Lent, i: usize, j: usize, k: usize) -> Result<bool, Refusal> {
+    /// The lowest sample that spoils stretch (i, j) at level k, none when it is permitted.
+    fn ask(&self, lent: &Lent, i: usize, j: usize, k: usize) -> Result<Option<usize>, Refusal> {
         self.check_samples(lent, true)?;
         ensure(i < j && j < self.held && (1..=self.levels).contains(&k), 8)?;
-        Ok(finest(lent, i, j, &self.tolerances[k - 1..k]) == 0)
+        let segment = Segment::new(lent, i, j);
+        let square = i64::from(self.tolerances[k - 1]).pow(2);
+        Ok((i + 1..j).find(|&q| {
+            let (apart, unit) = segment.miss(lent.across[q], lent.up[q]);
+            apart > square * unit
+        }))
     }
 
     /// Writes the ranks of the held samples and gives the count of segments per level.
@@ -197,26 +202,45 @@ fn least_sums(level: &[u16], capacity: usize, from: usize, to: usize, sums: &mut
     }
 }
 
+/// The closed segment between two samples.
+struct Segment {
+    ax: i64,
+    ay: i64,
+    dx: i64,
+    dy: i64,
+    length: i64,
+}
+
+impl Segment {
+    fn new(lent: &Lent, i: usize, j: usize) -> Segment {
+        let sample = |q: usize| (i64::from(lent.across[q]), i64::from(lent.up[q]));
+        let ((ax, ay), (bx, by)) = (sample(i), sample(j));
+        let (dx, dy) = (bx - ax, by - ay);
+        Segment { ax, ay, dx, dy, length: dx * dx + dy * dy }
+    }
+
+    /// The squared distance of a sample, as a fraction.
+    fn miss(&self, x: i16, y: i16) -> (i64, i64) {
+        let (px, py) = (i64::from(x) - self.ax, i64::from(y) - self.ay);
+        let dot = px * self.dx + py * self.dy;
+        if dot <= 0 {
+            (px * px + py * py, 1)
+        } else if dot >= self.length {
+            ((px - self.dx).pow(2) + (py - self.dy).pow(2), 1)
+        } else {
+            ((px * self.dy - py * self.dx).pow(2), self.length)
+        }
+    }
+}
+
 /// How many of the growing tolerances do not permit stretch (i, j): the finest level that does, from 0.
 fn finest(lent: &Lent, i: usize, j: usize, tolerances: &[u32]) -> usize {
-    let sample = |q: usize| (i64::from(lent.across[q]), i64::from(lent.up[q]));
-    let ((ax, ay), (bx, by)) = (sample(i), sample(j));
-    let (dx, dy) = (bx - ax, by - ay);
-    let length = dx * dx + dy * dy;
+    let segment = Segment::new(lent, i, j);
     let mut squares = tolerances.iter().map(|&tolerance| i64::from(tolerance).pow(2));
     let mut square = squares.next().unwrap_or(0);
     let mut passed = 0;
     for (&x, &y) in lent.across[i + 1..j].iter().zip(&lent.up[i + 1..j]) {
-        let (px, py) = (i64::from(x) - ax, i64::from(y) - ay);
-        let dot = px * dx + py * dy;
-        // The squared distance of the sample to the segment is apart / unit.
-        let (apart, unit) = if dot <= 0 {
-            (px * px + py * py, 1)
-        } else if dot >= length {
-            ((px - dx).pow(2) + (py - dy).pow(2), 1)
-        } else {
-            ((px * dy - py * dx).pow(2), length)
-        };
+        let (apart, unit) = segment.miss(x, y);
         while apart > square * unit {
             passed += 1;
             let Some(next) = squares.next() else { return passed };
@@ -360,7 +384,8 @@ impl Replay {
                 self.put_cells(refusal, cells);
             }
             6 => match self.trace.ask(&self.lent, fit(a[0])?, fit(a[1])?, fit(a[2])?) {
-                Ok(yes) => put(&mut self.text, format_args!("0 {} -\n", u8::from(yes))),
+                Ok(None) => put(&mut self.text, format_args!("0 1 -\n")),
+                Ok(Some(spoiler)) => put(&mut self.text, format_args!("0 0 {spoiler}\n")),
                 Err(refusal) => put(&mut self.text, format_args!("{refusal} - -\n")),
             },
             7 => self.read(),

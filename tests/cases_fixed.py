@@ -128,6 +128,21 @@ def asks(rng):
         yield command(ASK, i, j, k)
 
 
+def spoilers():
+    """Every way for four samples to lie near the line between two ends, off by more than the first tolerance, or by more than both."""
+    yield command(BUFS, 6, 6, 72, 6)
+    yield command(START, 2, 6, 1, 5)
+    up = [0] * 6
+    for p in range(6):
+        yield command(ADD, 10 * p, up[p])
+    for heights in product((0, 4, 9), repeat=4):
+        for p, height in enumerate(heights, 1):
+            if up[p] != height:
+                up[p] = height
+                yield command(CORRECT, p, 10 * p, height)
+        yield from (command(ASK, 0, 5, 1), command(ASK, 0, 5, 2))
+
+
 def question_marks():
     """Commands that cannot be taken, and their nearest that can; the reads show that nothing changed."""
     yield from poked_trace(2, 3, 2, [3, 3, 18, 3])
@@ -190,7 +205,7 @@ def full_size(rng):
 def replay_script(rng):
     """The whole standard input of replay; its last command is cut short."""
     parts = [starts(), lends(), refusals(rng), coordinates(), cell_edges(), unread_places(rng), dear_below(),
-             asks(rng), question_marks(), decodes(rng)]
+             asks(rng), spoilers(), question_marks(), decodes(rng)]
     parts += [own_case(rng, 7, 3) for _ in range(70)]
     parts += [own_case(rng, 4, 16) for _ in range(6)]
     parts += [own_case(rng, 30, 5) for _ in range(10)]

@@ -19,6 +19,17 @@ NEAR = [  # a, b, passed sample, tolerance, permitted
     ((0, 0), (20, 2), (10, 2), 1, True),
 ]
 FIVE = [(0, 0), (10, 1), (20, 0), (30, 3), (40, 0)]
+HILL = [(0, 0), (10, 2), (20, 9), (30, 4), (40, 0)]
+SPOILERS = [  # samples, stretch, tolerance, those that lie too far away
+    (HILL, (0, 4), 1, [1, 2, 3]),
+    (HILL, (0, 4), 2, [2, 3]),
+    (HILL, (0, 4), 4, [2]),
+    (HILL, (0, 4), 9, []),
+    (HILL, (1, 3), 1, [2]),
+    (HILL, (1, 2), 1, []),
+    (FIVE, (0, 4), 1, [3]),
+    (FIVE, (0, 2), 1, []),
+]
 RANKS = [  # samples, tolerances, ranks, total
     ([(0, 0), (10, 2), (20, 2), (30, 0)], (1,), [1, 0, 1, 1], 2),
     ([(0, 0), (10, 1), (20, 0), (20, 20)], (1, 10), [2, 0, 2, 2], 4),
@@ -66,6 +77,8 @@ def hold(samples, tolerances):
 def check_geometry():
     for a, b, q, e, expected in NEAR:
         assert plain.permitted([a, q, b], 0, 2, e) == expected, (a, b, q, e)
+    for samples, (i, j), e, expected in SPOILERS:
+        assert plain.spoilers(samples, i, j, e) == expected, (samples, i, j, e)
     ways = [(s, r) for r in range(1, 9) for s in range(r + 1)]
     for bx, by, x, y, e in product(range(-2, 3), range(-2, 3), range(-2, 3), range(-2, 3), range(4)):
         some = any((r * x - s * bx) ** 2 + (r * y - s * by) ** 2 <= e * e * r * r for s, r in ways)

@@ -17,34 +17,38 @@ FAMILIES_TRIED = 1_100  # a trace with at most this many ways to rank its sample
 # ---- Geometry ------------------------------------------------------------------------------------------
 
 
-def worst_miss(samples, i, j):
-    """The largest squared length of r(q-a) - s(b-a) over the samples q between i and j, and r.
+def misses(samples, i, j):
+    """The squared length of r(q-a) - s(b-a) for each sample q between i and j, in order, and r.
 
     s of r is how far along the closed segment from a to b the point nearest to q lies.
     """
     (ax, ay), (bx, by) = samples[i], samples[j]
     across, up = bx - ax, by - ay
     r = across * across + up * up or 1  # a = b: r is 1, s is 0
-    worst = 0
+    found = []
     for x, y in samples[i + 1:j]:
         x, y = x - ax, y - ay
         along = x * across + y * up
         s = 0 if along < 0 else r if along > r else along
         dx, dy = r * x - s * across, r * y - s * up
-        miss = dx * dx + dy * dy
-        if miss > worst:
-            worst = miss
-    return worst, r
+        found.append(dx * dx + dy * dy)
+    return found, r
+
+
+def spoilers(samples, i, j, e):
+    """The samples between i and j that lie too far from the segment, in order."""
+    found, r = misses(samples, i, j)
+    return [i + 1 + p for p, miss in enumerate(found) if miss > e * e * r * r]
 
 
 def permitted(samples, i, j, e):
-    worst, r = worst_miss(samples, i, j)
-    return worst <= e * e * r * r
+    return not spoilers(samples, i, j, e)
 
 
 def finest_level(samples, i, j, tolerances):
     """The first level that permits the stretch, one past the last when none does."""
-    worst, r = worst_miss(samples, i, j)
+    found, r = misses(samples, i, j)
+    worst = max(found, default=0)
     return 1 + sum(worst > e * e * r * r for e in tolerances)
 
 
@@ -276,7 +280,7 @@ def ask(trace, lent, i, j, k):
                      (8, lambda: i >= j or j >= trace.n or not 1 <= k <= trace.m))
     if refusal:
         return refusal, None
-    return 0, permitted(lent.samples(trace.n), i, j, trace.tolerances[k - 1])
+    return 0, spoilers(lent.samples(trace.n), i, j, trace.tolerances[k - 1])
 
 
 def read(trace, lent):
@@ -447,8 +451,10 @@ class Replay:
         return f"{refusal} {cells} {self.trace.n} {self.checksum()}"
 
     def ask(self, i, j, k):
-        refusal, yes = ask(self.trace, self.lent, i, j, k)
-        return f"{refusal} - -" if refusal else f"0 {int(yes)} -"
+        refusal, far = ask(self.trace, self.lent, i, j, k)
+        if refusal:
+            return f"{refusal} - -"
+        return f"0 0 {min(far)}" if far else "0 1 -"
 
     def read(self):
         refusal, total, counts = read(self.trace, self.lent)

@@ -93,7 +93,11 @@ fn past(ax: i16, ay: i16, bx: i16, by: i16, x: i16, y: i16, e: u32) {
     say_number(e as u64);
     match answer {
         Asked::Yes => say(b": yes\n"),
-        Asked::No => say(b": no\n"),
+        Asked::No(spoiler) => {
+            say(b": no, sample ");
+            say_number(spoiler as u64);
+            say(b"\n");
+        }
         Asked::Refused(why) => say_outcome(Outcome::Refused(why)),
     }
 }

@@ -16,7 +16,10 @@ use lib.Seq.{getD-set-other}
 use Rattle.refusal.specs.Check.{Decides}
 use Rattle.refusal.proofs.Plain.{decides-unique}
 use Rattle.geometry.specs.Coordinate.{InRange}
-use Rattle.geometry.proofs.Permits.{permits-decided, permits-wider, permits-adjacent, permits-same, Same}
+use Rattle.geometry.specs.declared.Verdict.{Verdict}
+use Rattle.geometry.specs.Spoiler.{Says, isYes}
+use Rattle.geometry.proofs.Spoiler.{says-decides, permits-decided}
+use Rattle.geometry.proofs.Permits.{permits-wider, permits-adjacent, permits-same, Same}
 use Rattle.family.proofs.Local.{Without}
 use Rattle.costs.specs.Costs.{Permit}
 use Rattle.costs.specs.Walk.{perm, Rising, Finest}
@@ -25,15 +28,17 @@ pub perm-decided : (xs ys : List ℤ) (tols : List ℕ) (k i j : ℕ) → InRang
 unfolding perm
 perm-decided xs ys tols k i j a b o = permits-decided xs ys i j (getD tols (k - 1) 0) a b o
 
--- an answer that is yes exactly when the stretch is permitted
-pub perm-judged : (xs ys : List ℤ) (tols : List ℕ) (k i j : ℕ) (r : Bool) → InRange xs (j + 1) → InRange ys (j + 1) → i < j → Decides (Permit xs ys tols k i j) r → r ≡ perm xs ys tols k i j
-perm-judged xs ys tols k i j r a b o d = decides-unique r (perm xs ys tols k i j) d (perm-decided xs ys tols k i j a b o)
+-- the test is yes exactly when the answer about the stretch is
+pub perm-judged : (xs ys : List ℤ) (tols : List ℕ) (k i j : ℕ) (v : Verdict) → InRange xs (j + 1) → InRange ys (j + 1) → i < j → Says xs ys i j (getD tols (k - 1) 0) v
+    → perm xs ys tols k i j ≡ isYes v
+perm-judged xs ys tols k i j v a b o s =
+    decides-unique (perm xs ys tols k i j) (isYes v) (perm-decided xs ys tols k i j a b o) (says-decides xs ys i j (getD tols (k - 1) 0) v s)
 
 pub perm-adjacent : (xs ys : List ℤ) (tols : List ℕ) (k i : ℕ) → perm xs ys tols k i (suc i) ≡ true
 unfolding perm
 perm-adjacent xs ys tols k i = permits-adjacent xs ys i (getD tols (k - 1) 0)
 
-rising : (tols : List ℕ) (m : ℕ) → Rising tols m → (a b : ℕ) → a ≤ b → b < m → getD tols a 0 ≤ getD tols b 0
+pub rising : (tols : List ℕ) (m : ℕ) → Rising tols m → (a b : ℕ) → a ≤ b → b < m → getD tols a 0 ≤ getD tols b 0
 rising tols m r a zero h g = let e : a ≡ zero = omega arith in rw e (le-refl _)
 rising tols m r a (suc b) h g = elim (decLe a b) [
   | yes y ↦ (let s : getD tols b 0 < getD tols (suc b) 0 = rw add-one at (r .rise b (omega arith)) in omega (arith, rising tols m r a b y (omega arith)))

@@ -8,6 +8,7 @@ ghost use Rattle.table.specs.Table.{cell, Wrote};
 ghost use Rattle.table.specs.Path.{SumAt};
 ghost use Rattle.costs.specs.Costs.{Named, named};
 ghost use Rattle.costs.specs.Walk.{perm, Rising, LowSteps, Rewritten, Row, Rows, Finest, from-finest, price as priceOf, Settled};
+use geometry::Verdict;
 
 // The least sums to j over the cells of level k, from each place up to j.
 fn sums_to(table: &[u16], cap: usize, k: usize, j: usize) -> [u32; 256]
@@ -107,11 +108,14 @@ fn finest(xs: &[i16], ys: &[i16], tolerances: &[u32; 16], m: usize, i: usize, j:
     requires { ⌜ (InRange (now xs) (j + 1)) × (InRange (now ys) (j + 1)) × (i < j) × (m ≤ 16) × (Rising (now tolerances) m) ⌝ }
     ensures { λ r. ⌜ Finest (perm (now (xs .entry)) (now (ys .entry)) (now (tolerances .entry))) m i j r ⌝ }
 {
+    let mut from = i + 1;
     let mut k = 1;
     while k <= m {
-        if geometry::permitted(xs, ys, i, j, tolerances[k - 1]) {
+        let verdict = geometry::judge(xs, ys, i, j, tolerances[k - 1], from);
+        let Verdict::No(spoiler) = verdict else {
             return k;
-        }
+        };
+        from = spoiler;
         k += 1;
     }
     k

@@ -20,7 +20,7 @@ unfolding gap
 same a b q = omega arith
 
 -- by the value of a test
-by-cond : (P : Bool → Type 0) (t : Bool) {u v : Bool} → (t ≡ true → P u) → (t ≡ false → P v) → P (cond t u v)
+pub by-cond : {A : Type 0} (P : A → Type 0) (t : Bool) {u v : A} → (t ≡ true → P u) → (t ≡ false → P v) → P (cond t u v)
 by-cond P true f g = f refl
 by-cond P false f g = g refl
 

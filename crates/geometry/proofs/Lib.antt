@@ -3,5 +3,6 @@ pub mod Core
 pub mod Decide
 pub mod Link
 pub mod Move
-pub mod Plane
 pub mod Permits
+pub mod Plane
+pub mod Spoiler

@@ -1,5 +1,4 @@
--- Laws of `Permitted` and of its test `permits`: the test decides, a wider tolerance permits more, neighbours are permitted, and only the samples
--- from i to j count. Assumes nothing.
+-- Laws of `Permitted` and of its test `permits`: a wider tolerance permits more, neighbours are permitted, and only the samples from i to j count. Assumes nothing.
 use mathlib.Core.Path.{_≡_, sym, subst}
 use mathlib.Core.Bool.{true}
 use mathlib.Core.List.{List}
@@ -8,39 +7,12 @@ use native.Mathlib.Nat.{le-trans, le-refl, le-of-lt, mul-le-mul, mul-le-mul-righ
 use native.Mathlib.Omega.{arith}
 use lib.IntN.{ℤ, pos}
 use lib.ListN.{getD}
-use Rattle.refusal.specs.Check.{Decides}
-use Rattle.refusal.proofs.Plain.{carry, decides-true, decides-unique, all-decided}
-use Rattle.geometry.specs.Coordinate.{InRange}
+use Rattle.refusal.proofs.Plain.{carry, decides-true, decides-unique}
 use Rattle.geometry.specs.Near.{Near, Along, Permitted}
 use Rattle.geometry.specs.Shifted.{Close, NearAt}
+use Rattle.geometry.specs.Spoiler.{Clear}
 use Rattle.geometry.specs.Test.{moved, permits}
-use Rattle.geometry.proofs.Decide.{reaches-decided}
-use Rattle.geometry.proofs.Link.{decides-near}
-use Rattle.geometry.proofs.Move.{stands}
-
-pub permits-decided : (xs ys : List ℤ) (i j e : ℕ) → InRange xs (j + 1) → InRange ys (j + 1) → i < j → Decides (Permitted xs ys i j e) (permits xs ys i j e)
-unfolding permits
-permits-decided xs ys i j e h k o =
-    carry
-    (λ p. record { each = λ l a b. subst (Along xs ys i j e) (back l a) (p (l - suc i) (omega arith)) })
-    (λ p l m. p .each (suc i + l) (omega arith) (omega arith))
-    (all-decided (λ l. Along xs ys i j e (suc i + l)) _ (j - suc i)
-    (λ l m.
-    decides-near (stands _ (h .each i (omega arith))) (stands _ (k .each i (omega arith))) (stands _ (h .each j (omega arith))) (stands _ (k .each j (omega arith)))
-    (stands _ (h .each (suc i + l) (omega arith))) (stands _ (k .each (suc i + l) (omega arith))) (reaches-decided _ _ _ _ _ _ (e * e))))
-  where
-    back : (l : ℕ) → i < l → suc i + (l - suc i) ≡ l
-    back l a = omega arith
-
--- what the test decides of any coordinates: `Along`, of the coordinates moved
-abbrev AlongAt : List ℤ → List ℤ → ℕ → ℕ → ℕ → ℕ → Type 0
-AlongAt xs ys i j e k =
-    NearAt (moved (getD xs i (pos 0))) (moved (getD ys i (pos 0))) (moved (getD xs j (pos 0))) (moved (getD ys j (pos 0)))
-    (moved (getD xs k (pos 0))) (moved (getD ys k (pos 0))) (e * e)
-
-tested : (xs ys : List ℤ) (i j e : ℕ) → Decides ((l : ℕ) → l < j - suc i → AlongAt xs ys i j e (suc i + l)) (permits xs ys i j e)
-unfolding permits
-tested xs ys i j e = all-decided _ _ (j - suc i) (λ l m. reaches-decided _ _ _ _ _ _ (e * e))
+use Rattle.geometry.proofs.Spoiler.{AlongAt, permits-told}
 
 -- a wider tolerance
 widen : {e f : ℕ} (m n : ℕ) → e ≤ f → m ≤ e * e * n → m ≤ f * f * n
@@ -49,11 +21,14 @@ widen m n h k = le-trans k (mul-le-mul-right n (mul-le-mul h h))
 pub near-wider : {ax ay bx by qx qy : ℤ} {e f : ℕ} → e ≤ f → Near ax ay bx by qx qy e → Near ax ay bx by qx qy f
 near-wider h n = record { s = n .s; r = n .r; along = n .along; whole = n .whole; within = widen _ _ h (n .within) }
 
+pub clear-wider : (xs ys : List ℤ) (i j k : ℕ) {e f : ℕ} → e ≤ f → Clear (Along xs ys i j e) i k → Clear (Along xs ys i j f) i k
+clear-wider xs ys i j k h c l a b = near-wider h (c l a b)
+
 pub permitted-wider : {xs ys : List ℤ} {i j e f : ℕ} → e ≤ f → Permitted xs ys i j e → Permitted xs ys i j f
-permitted-wider h p = record { each = λ k a b. near-wider h (p .each k a b) }
+permitted-wider {xs} {ys} {i} {j} h p = record { each = clear-wider xs ys i j j h (p .each) }
 
 pub permits-wider : (xs ys : List ℤ) (i j : ℕ) {e f : ℕ} → e ≤ f → permits xs ys i j e ≡ true → permits xs ys i j f ≡ true
-permits-wider xs ys i j {e} {f} h t = decides-true _ (tested xs ys i j f) (λ l m. wider _ (tested xs ys i j e .right t l m))
+permits-wider xs ys i j {e} {f} h t = decides-true _ (permits-told xs ys i j f) (λ k a b. wider _ (permits-told xs ys i j e .right t k a b))
   where
     wider : (M : ℕ → ℕ → ℕ) → Close M (e * e) → Close M (f * f)
     wider M n = record { s = n .s; r = n .r; along = n .along; whole = n .whole; within = widen _ _ h (n .within) }
@@ -66,7 +41,7 @@ pub permitted-adjacent : {xs ys : List ℤ} {i e : ℕ} → Permitted xs ys i (s
 permitted-adjacent = record { each = λ k a b. none a b }
 
 pub permits-adjacent : (xs ys : List ℤ) (i e : ℕ) → permits xs ys i (suc i) e ≡ true
-permits-adjacent xs ys i e = decides-true _ (tested xs ys i (suc i) e) (λ l m. none {i = i} {k = suc i + l} (omega arith) (omega arith))
+permits-adjacent xs ys i e = decides-true _ (permits-told xs ys i (suc i) e) (λ k a b. none a b)
 
 -- two buffers agree from i to j
 abbrev pub Same : List ℤ → List ℤ → ℕ → ℕ → Type 0
@@ -81,14 +56,17 @@ module _ (xs ys vs ws : List ℤ) (i j : ℕ) (h : Same xs vs i j) (g : Same ys 
       let o : i ≤ j = le-trans a b in
       rw (← h i (le-refl i) o, ← g i (le-refl i) o, ← h j o (le-refl j), ← g j o (le-refl j), ← h k a b, ← g k a b) p
 
-  pub permitted-same : {e : ℕ} → Permitted xs ys i j e → Permitted vs ws i j e
-  permitted-same {e} p = record { each = λ k a b. alike (λ ax ay bx by qx qy. Near ax ay bx by qx qy e) k (le-of-lt a) (le-of-lt b) (p .each k a b) }
+  pub along-same : {e : ℕ} (k : ℕ) → i < k → k < j → Along xs ys i j e k → Along vs ws i j e k
+  along-same {e} k a b p = alike (λ ax ay bx by qx qy. Near ax ay bx by qx qy e) k (le-of-lt a) (le-of-lt b) p
 
-  passed-same : (e : ℕ) → ((l : ℕ) → l < j - suc i → AlongAt xs ys i j e (suc i + l)) → (l : ℕ) → l < j - suc i → AlongAt vs ws i j e (suc i + l)
-  passed-same e p l m =
-      alike (λ ax ay bx by qx qy. NearAt (moved ax) (moved ay) (moved bx) (moved by) (moved qx) (moved qy) (e * e)) (suc i + l) (omega arith) (omega arith) (p l m)
+  pub permitted-same : {e : ℕ} → Permitted xs ys i j e → Permitted vs ws i j e
+  permitted-same p = record { each = λ k a b. along-same k a b (p .each k a b) }
+
+  clear-same : (e : ℕ) → Clear (AlongAt xs ys i j e) i j → Clear (AlongAt vs ws i j e) i j
+  clear-same e p k a b =
+      alike (λ ax ay bx by qx qy. NearAt (moved ax) (moved ay) (moved bx) (moved by) (moved qx) (moved qy) (e * e)) k (le-of-lt a) (le-of-lt b) (p k a b)
 
 pub permits-same : (xs ys vs ws : List ℤ) (i j e : ℕ) → Same xs vs i j → Same ys ws i j → permits xs ys i j e ≡ permits vs ws i j e
 permits-same xs ys vs ws i j e h g =
-    decides-unique _ _ (tested xs ys i j e)
-    (carry (passed-same vs ws xs ys i j (λ k a b. sym (h k a b)) (λ k a b. sym (g k a b)) e) (passed-same xs ys vs ws i j h g e) (tested vs ws i j e))
+    decides-unique _ _ (permits-told xs ys i j e)
+    (carry (clear-same vs ws xs ys i j (λ k a b. sym (h k a b)) (λ k a b. sym (g k a b)) e) (clear-same xs ys vs ws i j h g e) (permits-told vs ws i j e))

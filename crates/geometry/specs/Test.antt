@@ -1,14 +1,16 @@
--- Whether a stretch is permitted, by computing: three cases, as the nearest point of the segment is its beginning, its end or between.
+-- The answer about a stretch, by computing: three cases, as the nearest point of the segment is its beginning, its end or between.
 -- Assumes nothing.
 use mathlib.Core.Bool.{Bool, cond}
 use mathlib.Core.List.{List}
-use Prim.Native.Nat.{ℕ, suc, _+_, _*_, _-_}
+use Prim.Native.Nat.{ℕ, zero, suc, _+_, _*_, _-_}
 use lib.Dec.{leb}
 use lib.IntN.{ℤ, pos, negsuc}
 use lib.ListN.{getD}
-use Rattle.refusal.specs.Check.{allBelow}
 use Rattle.algebra.specs.Gap.{gap}
+use Rattle.geometry.specs.declared.Verdict.{Verdict}
+use Rattle.geometry.specs.declared.Verdict.the-variants.{Yes, No}
 use Rattle.geometry.specs.Shifted.{apart}
+use Rattle.geometry.specs.Spoiler.{isYes}
 
 -- a coordinate, moved by 16,384
 abbrev pub moved : ℤ → ℕ
@@ -39,10 +41,20 @@ reaches a x b y q z reach =
     (cond (leb (aft a x b y q z + apart b y a x) (fore a x b y q z)) (leb (apart q z b y) reach)
     (leb (cross-sq a x b y q z) (reach * apart b y a x)))
 
--- the stretch from i to j is permitted at e
-unfoldable pub permits : List ℤ → List ℤ → ℕ → ℕ → ℕ → Bool
-permits xs ys i j e =
-    allBelow (j - suc i)
-    (λ l.
+-- the lowest of n numbers from k on that a test does not pass
+unfoldable pub lowest : (ℕ → Bool) → ℕ → ℕ → Verdict
+lowest f k zero = Yes
+lowest f k (suc n) = cond (f k) (lowest f (suc k) n) (No k)
+
+-- the answer about the stretch from i to j at e
+unfoldable pub judged : List ℤ → List ℤ → ℕ → ℕ → ℕ → Verdict
+judged xs ys i j e =
+    lowest
+    (λ k.
     reaches (moved (getD xs i (pos 0))) (moved (getD ys i (pos 0))) (moved (getD xs j (pos 0))) (moved (getD ys j (pos 0)))
-    (moved (getD xs (suc i + l) (pos 0))) (moved (getD ys (suc i + l) (pos 0))) (e * e))
+    (moved (getD xs k (pos 0))) (moved (getD ys k (pos 0))) (e * e))
+    (suc i) (j - suc i)
+
+-- whether it is yes: the stretch is permitted
+unfoldable pub permits : List ℤ → List ℤ → ℕ → ℕ → ℕ → Bool
+permits xs ys i j e = isYes (judged xs ys i j e)

@@ -7,8 +7,9 @@ ghost use Rattle.refusal.specs.Check.{Decides};
 ghost use Rattle.algebra.specs.Gap.{gap};
 ghost use Rattle.algebra.specs.Parts.{Is};
 ghost use Rattle.geometry.specs.Coordinate.{Coord, InRange, coordinateOk, coordinatesOk};
-ghost use Rattle.geometry.specs.Near.{Permitted};
+ghost use Rattle.geometry.specs.Near.{Along};
 ghost use Rattle.geometry.specs.Shifted.{apart, NearAt, Moved};
+ghost use Rattle.geometry.specs.Spoiler.{Clear, Says};
 
 // The range of a coordinate.
 pub const COORDINATE_LEAST: i16 = -16384;
@@ -94,10 +95,17 @@ fn near_moved(a: u64, x: u64, b: u64, y: u64, length: u64, q: u64, z: u64, reach
     cross * cross <= reach * length
 }
 
-// Whether the stretch from sample i to sample j is permitted at tolerance e.
-pub fn permitted(xs: &[i16], ys: &[i16], i: usize, j: usize, e: u32) -> bool
-    requires { ⌜ (InRange (now xs) (j + 1)) × (InRange (now ys) (j + 1)) × (i < j) × (e ≤ 65536) ⌝ }
-    ensures { λ r. ⌜ Decides (Permitted (now (xs .entry)) (now (ys .entry)) i j e) r ⌝ }
+// Whether a stretch is permitted: yes, or no with the lowest sample that lies too far away.
+pub enum Verdict {
+    Yes,
+    No(usize),
+}
+
+// Judge the stretch from sample i to sample j at tolerance e; its samples before from are known to lie near.
+pub fn judge(xs: &[i16], ys: &[i16], i: usize, j: usize, e: u32, from: usize) -> Verdict
+    requires { ⌜ (InRange (now xs) (j + 1)) × (InRange (now ys) (j + 1)) × (i < from) × (from ≤ j) × (e ≤ 65536) ⌝ }
+    requires { ⌜ Clear (Along (now xs) (now ys) i j e) i from ⌝ }
+    ensures { λ r. ⌜ Says (now (xs .entry)) (now (ys .entry)) i j e r ⌝ }
 {
     let a = moved_at(xs, i);
     let x = moved_at(ys, i);
@@ -105,12 +113,12 @@ pub fn permitted(xs: &[i16], ys: &[i16], i: usize, j: usize, e: u32) -> bool
     let y = moved_at(ys, j);
     let length = dist(b, y, a, x);
     let reach = e as u64 * e as u64;
-    let mut k = i + 1;
+    let mut k = from;
     while k < j {
         if !near_moved(a, x, b, y, length, moved_at(xs, k), moved_at(ys, k), reach) {
-            return false;
+            return Verdict::No(k);
         }
         k += 1;
     }
-    true
+    Verdict::Yes
 }

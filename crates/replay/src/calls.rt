@@ -90,7 +90,11 @@ fn ask(command: &[u8; 80], trace: Trace, xs: &[i16], ys: &[i16], text: &mut [u8]
     let answer = trace.ask(xs, ys, k, i, j);
     match answer {
         Asked::Yes => text::bytes(text, 0, b"0 1 -\n"),
-        Asked::No => text::bytes(text, 0, b"0 0 -\n"),
+        Asked::No(spoiler) => {
+            let at = text::bytes(text, 0, b"0 0 ");
+            let at = text::number(text, at, spoiler as u64);
+            text::byte(text, at, b'\n')
+        }
         Asked::Refused(why) => {
             let at = line::first(text, Outcome::Refused(why));
             text::bytes(text, at, b" - -\n")

@@ -4,7 +4,7 @@ use Rattle.refusal.specs.Check.{allBelow}
 use Rattle.algebra.specs.Gap.{gap}
 use Rattle.geometry.specs.Coordinate.{coordinateOk, coordinatesOk}
 use Rattle.geometry.specs.Shifted.{apart}
-use Rattle.geometry.specs.Test.{cross-sq, reaches, permits}
+use Rattle.geometry.specs.Test.{cross-sq, reaches, lowest, judged, permits}
 use Rattle.family.specs.Family.{cells, value, below, least, least-by, via, hop, next, along, rank, total, segments}
 use Rattle.costs.specs.Walk.{perm}
 use Rattle.record.specs.Record.{word, signed, signedAt, counter, spareOk, recordOutcome}
@@ -17,7 +17,7 @@ abbrev _and_ : {A B : Type 0} → A → B → A × B
 a and b = (a, b)
 
 worked : AllWorked starred
-unfolding coordinatesOk coordinateOk perm permits allBelow reaches apart gap cross-sq cells value below least least-by via hop next along rank total segments
+unfolding coordinatesOk coordinateOk perm permits judged lowest allBelow reaches apart gap cross-sq cells value below least least-by via hop next along rank total segments
     pauseLineOf fileOutcome fileLengthOk recordsOutcome recordOutcome counter spareOk word signed signedAt increase increaseAt pauseSum
 worked =
     -- stretches

@@ -1,18 +1,21 @@
 -- One theorem for each call: from every entry there is a result that its promise allows. Assumes nothing.
 use mathlib.Core.Path.{refl}
 use mathlib.Core.List.{List}
-use Prim.Native.Nat.{ℕ, _+_}
+use Prim.Native.Nat.{ℕ, _+_, _-_}
 use native.Mathlib.Omega.{arith}
 use lib.IntN.{ℤ}
-use lib.ListN.{length, set, replicate}
+use lib.ListN.{length, getD, set, replicate}
 use Rattle.refusal.specs.declared.Outcome.{Outcome}
 use Rattle.refusal.specs.declared.Outcome.the-variants.{Done, Refused}
 use Rattle.refusal.specs.Number.{code}
-use Rattle.refusal.proofs.Plain.{decided}
+use Rattle.geometry.specs.declared.Verdict.{Verdict}
+use Rattle.geometry.specs.declared.Verdict.the-variants as Verdict
+use Rattle.geometry.specs.Spoiler.{Says}
+use Rattle.geometry.specs.Test.{judged}
 use Rattle.geometry.proofs.Coordinate.{fewer}
+use Rattle.geometry.proofs.Spoiler.{judged-says}
 use Rattle.costs.specs.Costs.{named}
 use Rattle.costs.specs.Walk.{perm}
-use Rattle.costs.proofs.Perm.{perm-decided}
 use Rattle.costs.proofs.Exit.{rewritten-some}
 use Rattle.readout.specs.Read.{RanksRead}
 use Rattle.readout.proofs.Exists.{ranks-some}
@@ -66,15 +69,16 @@ correct-some a b v x y =
 pub ask-some : (a : Trace) (xs ys : List ℤ) (k i j : ℕ) → (r : Asked) × AskGives a xs ys k i j r xs ys
 ask-some a xs ys k i j = by (askOutcome a xs ys k i j) (ask-number a xs ys k i j)
   where
+    said : AskNumber a xs ys k i j 0 → (v : Verdict) → Says xs ys i j (getD (a .tolerances) (k - 1) 0) v → (r : Asked) × AskGives a xs ys k i j r xs ys
+    said h Verdict.Yes s = (Asked.Yes, record { number = h; says = s; lent = (refl, refl) })
+    said h (Verdict.No q) s = (Asked.No q, record { number = h; says = s; lent = (refl, refl) })
+
     by : (o : Outcome) → AskNumber a xs ys k i j (code o) → (r : Asked) × AskGives a xs ys k i j r xs ys
     by (Refused why) h = (Asked.Refused why, record { number = h; says = tt; lent = (refl, refl) })
     by Done h =
         let p = ask-passed a xs ys k i j h in
         let r = in-range (p .0) in
-        elim (decided (perm xs ys (a .tolerances) k i j) (perm-decided xs ys (a .tolerances) k i j (fewer (omega arith) (r .0)) (fewer (omega arith) (r .1)) (p .1))) [
-          | yes y ↦ (Asked.Yes, record { number = h; says = y; lent = (refl, refl) })
-          | no n ↦ (Asked.No, record { number = h; says = n; lent = (refl, refl) })
-        ]
+        said h (judged xs ys i j (getD (a .tolerances) (k - 1) 0)) (judged-says xs ys i j (getD (a .tolerances) (k - 1) 0) (fewer (omega arith) (r .0)) (fewer (omega arith) (r .1)) (p .1))
 
 -- ---- read
 pub read-some : (a : Trace) (b : Buffers) (ranks : List ℕ) → (r : Levels) × (bytes : List ℕ) × ReadGives a b ranks r b bytes

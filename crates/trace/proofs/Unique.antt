@@ -1,15 +1,16 @@
 -- One theorem for each call: any two results that its promise allows for one entry, answers and buffers after the call, are equal. Assumes nothing.
 use mathlib.Core.Path.{_≡_, refl, sym, ap, _∙_}
 use mathlib.Core.List.{List}
-use Prim.Native.Nat.{ℕ, _+_}
+use Prim.Native.Nat.{ℕ, _+_, _-_}
 use native.Mathlib.Omega.{arith}
 use lib.IntN.{ℤ}
+use lib.ListN.{getD}
 use Rattle.refusal.specs.declared.Refusal.{Refusal}
 use Rattle.refusal.specs.declared.Outcome.{Outcome}
 use Rattle.refusal.specs.declared.Outcome.the-variants.{Done, Refused}
 use Rattle.refusal.specs.Number.{code}
 use Rattle.refusal.proofs.Rows.{numbered, number-one, code-one, by-outcome}
-use Rattle.costs.specs.Costs.{Permit}
+use Rattle.geometry.proofs.Spoiler.{spoiler-one, spoiled}
 use Rattle.trace.specs.declared.Trace.{Trace}
 use Rattle.trace.specs.declared.Started.{Started}
 use Rattle.trace.specs.declared.Changed.{Changed}
@@ -81,21 +82,21 @@ correct-one a b v x y r q e f A B =
     r q e f A B
 
 -- ---- ask
--- two answers about one statement, with one number
-pub says-one : (P : Type 0) (r q : Asked) → asked r ≡ asked q → Says P r → Says P q → r ≡ q
-says-one P Asked.Yes Asked.Yes e A B = refl
-says-one P Asked.Yes Asked.No e A B = absurd (B A)
-says-one P Asked.Yes (Asked.Refused w) e A B = absurd (numbered w (sym e))
-says-one P Asked.No Asked.Yes e A B = absurd (A B)
-says-one P Asked.No Asked.No e A B = refl
-says-one P Asked.No (Asked.Refused w) e A B = absurd (numbered w (sym e))
-says-one P (Asked.Refused w) Asked.Yes e A B = absurd (numbered w e)
-says-one P (Asked.Refused w) Asked.No e A B = absurd (numbered w e)
-says-one P (Asked.Refused w) (Asked.Refused x) e A B = ap Asked.Refused (number-one w x e)
+-- two answers about one stretch, with one number
+pub says-one : (xs ys : List ℤ) (i j e : ℕ) (r q : Asked) → asked r ≡ asked q → Says xs ys i j e r → Says xs ys i j e q → r ≡ q
+says-one xs ys i j e Asked.Yes Asked.Yes n A B = refl
+says-one xs ys i j e Asked.Yes (Asked.No l) n A B = absurd (spoiled B A)
+says-one xs ys i j e Asked.Yes (Asked.Refused w) n A B = absurd (numbered w (sym n))
+says-one xs ys i j e (Asked.No k) Asked.Yes n A B = absurd (spoiled A B)
+says-one xs ys i j e (Asked.No k) (Asked.No l) n A B = ap Asked.No (spoiler-one A B)
+says-one xs ys i j e (Asked.No k) (Asked.Refused w) n A B = absurd (numbered w (sym n))
+says-one xs ys i j e (Asked.Refused w) Asked.Yes n A B = absurd (numbered w n)
+says-one xs ys i j e (Asked.Refused w) (Asked.No l) n A B = absurd (numbered w n)
+says-one xs ys i j e (Asked.Refused w) (Asked.Refused x) n A B = ap Asked.Refused (number-one w x n)
 
 pub ask-one : (a : Trace) (xs ys : List ℤ) (k i j : ℕ) (r q : Asked) (u u′ w w′ : List ℤ) → AskGives a xs ys k i j r u w → AskGives a xs ys k i j q u′ w′ → (r ≡ q) × (u ≡ u′) × (w ≡ w′)
 ask-one a xs ys k i j r q u u′ w w′ A B = (
-  says-one (Permit xs ys (a .tolerances) k i j) r q (ask-number-one a xs ys k i j (asked r) (asked q) (A .number) (B .number)) (A .says) (B .says),
+  says-one xs ys i j (getD (a .tolerances) (k - 1) 0) r q (ask-number-one a xs ys k i j (asked r) (asked q) (A .number) (B .number)) (A .says) (B .says),
   A .lent .0 ∙ sym (B .lent .0),
   A .lent .1 ∙ sym (B .lent .1),
 )

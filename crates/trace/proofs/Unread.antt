@@ -13,11 +13,12 @@ use Rattle.refusal.specs.declared.Refusal.{Refusal}
 use Rattle.refusal.specs.declared.Outcome.the-variants.{Done, Refused}
 use Rattle.refusal.proofs.Rows.{first-same, first-unless}
 use Rattle.geometry.specs.Coordinate.{Coord}
-use Rattle.geometry.proofs.Permits.{Same, permitted-same, permits-same}
+use Rattle.geometry.proofs.Spoiler.{spoiler-carried}
+use Rattle.geometry.proofs.Permits.{Same, along-same, permitted-same, permits-same}
 use Rattle.family.specs.Fine.{Checked}
 use Rattle.family.proofs.Local.{Without, value-same, put-unique}
 use Rattle.table.specs.Table.{cell}
-use Rattle.costs.specs.Costs.{Permit, Named}
+use Rattle.costs.specs.Costs.{Named}
 use Rattle.costs.specs.Walk.{perm, Rewritten}
 use Rattle.costs.proofs.Exit.{rewritten-kept}
 use Rattle.readout.proofs.Unique.{read-alike}
@@ -107,13 +108,6 @@ module _ {m n : ℕ} {xs ys us ws : List ℤ} (tols tols′ : List ℕ) (agree :
   unfolding perm
   perm-alike = rw (agree (k - 1) (omega arith)) (permits-same xs ys us ws i j (getD tols′ (k - 1) 0) (samples-same i j h X) (samples-same i j h Y))
 
-  permit-alike : Permit xs ys tols k i j ↔ Permit us ws tols′ k i j
-  permit-alike =
-      let e = agree (k - 1) (omega arith) in (
-        λ p. permitted-same xs ys us ws i j (samples-same i j h X) (samples-same i j h Y) (rw e at p),
-        λ p. rw e (permitted-same us ws xs ys i j (λ q u v. sym (samples-same i j h X q u v)) (λ q u v. sym (samples-same i j h Y q u v)) p),
-      )
-
 -- ---- add and correct
 -- a sample put at v, where all others were among the n held
 put-alike : {n o v : ℕ} {xs us : List ℤ} (x : ℤ) → AlikeSamples n xs us → v < length xs → ((q : ℕ) → q < o → (q ≡ v → ⊥) → q < n) → AlikeSamples o (set xs v x) (set us v x)
@@ -201,23 +195,29 @@ correct-unread a c b d v x y r q e f A B G H =
     r q e f G (subst (λ z. CorrectGives z d v x y q f) (tuned-same A) H)
 
 -- ---- ask
--- an answer about one statement says the same of another, where the two are equivalent unless the call is refused
-says-carried : {P Q : Type 0} (r : Asked) → (asked r ≡ 0 → P ↔ Q) → Says P r → Says Q r
-says-carried Asked.Yes f h = f refl .0 h
-says-carried Asked.No f h = λ q. h (f refl .1 q)
-says-carried (Asked.Refused w) f h = tt
+-- an answer about a stretch says the same where tolerance and samples are the same unless the call is refused
+says-carried : (xs ys us ws : List ℤ) (i j e f : ℕ) (r : Asked) → (asked r ≡ 0 → (e ≡ f) × Same xs us i j × Same ys ws i j) → Says xs ys i j e r → Says us ws i j f r
+says-carried xs ys us ws i j e f Asked.Yes same s = let g = same refl in permitted-same xs ys us ws i j (g .1) (g .2) (rw (g .0) at s)
+says-carried xs ys us ws i j e f (Asked.No q) same s =
+    let g = same refl in
+    spoiler-carried
+    (λ l a b. (along-same xs ys us ws i j (g .1) (g .2) l a b, along-same us ws xs ys i j (λ k x y. sym (g .1 k x y)) (λ k x y. sym (g .2 k x y)) l a b))
+    (rw (g .0) at s)
+says-carried xs ys us ws i j e f (Asked.Refused w) same s = tt
 
 pub ask-unread : (a c : Trace) (xs ys us ws : List ℤ) (k i j : ℕ) (r q : Asked) (xs′ ys′ us′ ws′ : List ℤ) → AlikeTraces a c → AlikeSamples (a .held) xs us → AlikeSamples (a .held) ys ws
     → AskGives a xs ys k i j r xs′ ys′ → AskGives c us ws k i j q us′ ws′ → r ≡ q
 ask-unread a c xs ys us ws k i j r q xs′ ys′ us′ ws′ A X Y G H =
     let s = c .tolerances in
     let H′ = subst (λ z. AskGives z us ws k i j q us′ ws′) (tuned-same A) H in
-    says-one (Permit us ws s k i j) r q
+    says-one us ws i j (getD s (k - 1) 0) r q
     (ask-number-one (tuned a s) us ws k i j (asked r) (asked q) (samples-carried a s (A .tolerances) xs ys us ws X Y (G .number)) (H′ .number))
-    (says-carried r permit (G .says)) (H′ .says)
+    (says-carried xs ys us ws i j (getD (a .tolerances) (k - 1) 0) (getD s (k - 1) 0) r same (G .says)) (H′ .says)
   where
-    permit : asked r ≡ 0 → Permit xs ys (a .tolerances) k i j ↔ Permit us ws (c .tolerances) k i j
-    permit e = let p = ask-passed a xs ys k i j (rw e at (G .number)) in permit-alike (a .tolerances) (c .tolerances) (A .tolerances) X Y k i j (p .3) (p .4) (p .2)
+    same : asked r ≡ 0 → (getD (a .tolerances) (k - 1) 0 ≡ getD (c .tolerances) (k - 1) 0) × Same xs us i j × Same ys ws i j
+    same e =
+        let p = ask-passed a xs ys k i j (rw e at (G .number)) in
+        (A .tolerances (k - 1) (omega arith), samples-same i j (p .2) X, samples-same i j (p .2) Y)
 
 -- ---- read
 module _ (a : Trace) (tols : List ℕ) (agree : Agree (a .levels) (a .tolerances) tols) (b d : Buffers) (B : AlikeBuffers a b d) (ranks bytes : List ℕ) (L : length ranks ≡ length bytes)

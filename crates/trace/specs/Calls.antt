@@ -3,10 +3,12 @@ use mathlib.Core.Path.{_≡_}
 use mathlib.Core.List.{List, _++_}
 use Prim.Native.Nat.{ℕ, _+_, _-_}
 use lib.IntN.{ℤ}
-use lib.ListN.{set, take, replicate}
+use lib.ListN.{getD, set, take, replicate}
 use Rattle.refusal.specs.declared.Refusal.{Refusal}
 use Rattle.refusal.specs.declared.Outcome.the-variants.{Done, Refused}
 use Rattle.refusal.specs.Number.{number, code}
+use Rattle.geometry.specs.Near.{Along, Permitted}
+use Rattle.geometry.specs.Spoiler.{Spoiler}
 use Rattle.costs.specs.Costs.{Permit, CellsWritten, named}
 use Rattle.readout.specs.Read.{RanksRead}
 use Rattle.trace.specs.declared.Trace.{Trace}
@@ -79,18 +81,18 @@ CorrectGives a b v x y = ChangeGives (CorrectNumber a (b .across) (b .upward) (b
 -- the paper's number of an answer, 0 for a yes and for a no
 abbrev pub asked : Asked → ℕ
 asked Asked.Yes = 0
-asked Asked.No = 0
+asked (Asked.No q) = 0
 asked (Asked.Refused why) = number why
 
--- what an answer says of a statement: yes that it holds, no that it does not, a refusal neither
-abbrev pub Says : Type 0 → Asked → Type 0
-Says P Asked.Yes = P
-Says P Asked.No = P → ⊥
-Says P (Asked.Refused why) = Unit {0}
+-- what an answer says of the stretch (i, j) at a tolerance: yes that it is permitted, no that q is the lowest sample that lies too far away, a refusal neither
+abbrev pub Says : List ℤ → List ℤ → ℕ → ℕ → ℕ → Asked → Type 0
+Says xs ys i j e Asked.Yes = Permitted xs ys i j e
+Says xs ys i j e (Asked.No q) = Spoiler (Along xs ys i j e) i j q
+Says xs ys i j e (Asked.Refused why) = Unit {0}
 
 pub record AskGives (a : Trace) (xs ys : List ℤ) (k i j : ℕ) (r : Asked) (xs′ ys′ : List ℤ) : Type 0 where
   pub number : AskNumber a xs ys k i j (asked r)
-  pub says : Says (Permit xs ys (a .tolerances) k i j) r
+  pub says : Says xs ys i j (getD (a .tolerances) (k - 1) 0) r
   pub lent : (xs′ ≡ xs) × (ys′ ≡ ys)
 
 -- ---- read

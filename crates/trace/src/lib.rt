@@ -4,6 +4,7 @@ ghost use Prim.Native.Nat.{_*_, _≤_};
 ghost use lib.ListN.{length};
 ghost use Rattle.trace.specs.Calls.{buffers, kept, StartGives, AddGives, CorrectGives, AskGives, ReadGives};
 ghost use Rattle.trace.specs.Rows.{setupOk, tolerancesOk, setupOutcome, lentOk, lentOutcome, samplesOk, storedOk, sampleOk, stretchOk, traceOutcome, sampleOutcome, askOutcome, readOutcome, Ready, Changes};
+use geometry::Verdict;
 use geometry::coordinate_ok;
 use geometry::coordinates_ok;
 use refusal::Outcome;
@@ -32,10 +33,10 @@ pub struct Changed {
     pub cells: usize,
 }
 
-// Whether a stretch is permitted.
+// Whether a stretch is permitted: yes, or no with the lowest sample that lies too far away.
 pub enum Asked {
     Yes,
-    No,
+    No(usize),
     Refused(Refusal),
 }
 
@@ -367,10 +368,11 @@ impl Trace {
             return Asked::Refused(why);
         }
         let tolerances = self.tolerances;
-        if geometry::permitted(xs, ys, i, j, tolerances[k - 1]) {
-            return Asked::Yes;
+        let verdict = geometry::judge(xs, ys, i, j, tolerances[k - 1], i + 1);
+        match verdict {
+            Verdict::Yes => Asked::Yes,
+            Verdict::No(spoiler) => Asked::No(spoiler),
         }
-        Asked::No
     }
 
     // Write the ranks of the samples held, and count the segments of each level.

@@ -42,26 +42,39 @@ returns c = record { number = rw (c .before .o .given .1) at (number (c .before 
 enum-told : tie.Need-enum-told
 enum-told c = search needs
 
-sub-permitted : tie.Need-sub-permitted
-sub-permitted c = let p = passed (c .before) in omega arith
+sub-judge : tie.Need-sub-judge
+sub-judge c = let p = passed (c .before) in omega arith
 
-mul-permitted : tie.Need-mul-permitted
-mul-permitted c = let p = passed (c .before) in omega (arith, p .0 .sized)
+mul-judge : tie.Need-mul-judge
+mul-judge c = let p = passed (c .before) in omega (arith, p .0 .sized)
 
-array-read-permitted : tie.Need-array-read-permitted
-array-read-permitted c = let p = passed (c .before) in omega (arith, p .0 .sized)
+array-read-judge : tie.Need-array-read-judge
+array-read-judge c = let p = passed (c .before) in omega (arith, p .0 .sized)
 
-permitted-requires : tie.Need-permitted-requires
-permitted-requires c κs =
+add-judge : tie.Need-add-judge
+add-judge c = let p = passed (c .before) in omega arith
+
+judge-requires : tie.Need-judge-requires
+judge-requires c κs =
     let p = passed (c .before) in
-    let r = in-range (p .0) in
-    (fewer (omega arith) (r .0), fewer (omega arith) (r .1), p .1, omega (arith, p .0 .tolerances .high (c .before .before .before .before .args .k - 1) (omega arith)))
+    let r = in-range (p .0) in (
+      (fewer (omega arith) (r .0), fewer (omega arith) (r .1), omega arith, omega arith, omega (arith, p .0 .tolerances .high (c .before .before .before .before .args .k - 1) (omega arith))),
+      λ l a b. absurd (omega arith),
+    )
+
+enum-told-2 : tie.Need-enum-told-2
+enum-told-2 c = search needs
+
+enum-known-verdict : tie.Need-enum-known-verdict
+enum-known-verdict c = search needs
 
 returns-2 : tie.Need-returns-2
-returns-2 c = record { number = zero (c .before .before .before); says = c .before .permitted .ensures .right (c .if1 .taken); lent = (refl, refl) }
+returns-2 c =
+    record { number = zero (c .before .before .before .before); says = rw (c .enum-told2 .given .1) at (c .before .before .judge .ensures); lent = (refl, refl) }
 
 returns-3 : tie.Need-returns-3
-returns-3 c = record { number = zero (c .before .before .before); says = c .before .permitted .ensures .wrong (c .if1 .left); lent = (refl, refl) }
+returns-3 c =
+    record { number = zero (c .before .before .before .before .before); says = rw (c .before .verdict .given .1) at (c .before .before .before .judge .ensures); lent = (refl, refl) }
 
 pub ask-spec : {M : Type 1} → statement M
 ask-spec =
@@ -71,9 +84,12 @@ ask-spec =
     enum-known-o
     returns
     enum-told
-    sub-permitted
-    mul-permitted
-    array-read-permitted
-    permitted-requires
+    sub-judge
+    mul-judge
+    array-read-judge
+    add-judge
+    judge-requires
+    enum-told-2
+    enum-known-verdict
     returns-2
     returns-3)

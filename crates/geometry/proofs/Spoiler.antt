@@ -1,0 +1,127 @@
+-- Laws of the answer about a stretch: there is one and no other, it is yes exactly when the stretch is permitted, and otherwise it is no with the spoiler. The answer by
+-- computing is that one. Assumes nothing.
+use mathlib.Core.Path.{_≡_, refl, ap}
+use mathlib.Core.Bool.{Bool}
+use mathlib.Core.List.{List}
+use mathlib.Core.Logic.{_↔_}
+use Prim.Native.Nat.{ℕ, zero, suc, _+_, _*_, _-_, _≤_, _<_}
+use native.Mathlib.Nat.{le-antisymm, eq-or-lt-of-le}
+use native.Mathlib.Decide.{decLt}
+use native.Mathlib.Omega.{arith}
+use lib.IntN.{ℤ, pos}
+use lib.ListN.{getD}
+use Rattle.refusal.specs.Check.{Decides}
+use Rattle.refusal.proofs.Plain.{yes-decides, no-decides, carry}
+use Rattle.geometry.specs.declared.Verdict.{Verdict}
+use Rattle.geometry.specs.declared.Verdict.the-variants.{Yes, No}
+use Rattle.geometry.specs.Coordinate.{InRange}
+use Rattle.geometry.specs.Near.{Along, Permitted}
+use Rattle.geometry.specs.Shifted.{NearAt}
+use Rattle.geometry.specs.Spoiler.{Clear, Spoiler, Says, isYes}
+use Rattle.geometry.specs.Test.{moved, lowest, judged, permits}
+use Rattle.geometry.proofs.Decide.{by-cond, reaches-decided}
+use Rattle.geometry.proofs.Link.{decides-near}
+use Rattle.geometry.proofs.Move.{stands}
+
+-- ---- the spoiler
+lowest-le : {P : ℕ → Type 0} {i j k l : ℕ} → Spoiler P i j k → Spoiler P i j l → k ≤ l
+lowest-le {k = k} {l = l} s t = elim (decLt l k) [
+  | yes h ↦ absurd (t .far (s .lowest l (t .after) h))
+  | no n ↦ omega arith
+]
+
+pub spoiler-one : {P : ℕ → Type 0} {i j k l : ℕ} → Spoiler P i j k → Spoiler P i j l → k ≡ l
+spoiler-one s t = le-antisymm (lowest-le s t) (lowest-le t s)
+
+-- what is equivalent between i and j has the same
+pub spoiler-carried : {P Q : ℕ → Type 0} {i j k : ℕ} → ((l : ℕ) → i < l → l < j → P l ↔ Q l) → Spoiler P i j k → Spoiler Q i j k
+spoiler-carried f s = record {
+  after = s .after;
+  before = s .before;
+  far = λ q. s .far (f _ (s .after) (s .before) .1 q);
+  lowest = λ l a b. f l a (omega (arith, s .before)) .0 (s .lowest l a b);
+}
+
+-- ---- the answer
+pub spoiled : {xs ys : List ℤ} {i j e k : ℕ} → Spoiler (Along xs ys i j e) i j k → Permitted xs ys i j e → ⊥
+spoiled s p = s .far (p .each _ (s .after) (s .before))
+
+module _ (xs ys : List ℤ) (i j e : ℕ) where
+  -- any two are equal
+  pub says-one : (v w : Verdict) → Says xs ys i j e v → Says xs ys i j e w → v ≡ w
+  says-one Yes Yes p q = refl
+  says-one Yes (No k) p s = absurd (spoiled s p)
+  says-one (No k) Yes s p = absurd (spoiled s p)
+  says-one (No k) (No l) s t = ap No (spoiler-one s t)
+
+  -- yes exactly when the stretch is permitted, and no with k exactly when k is the spoiler
+  pub says-yes : (v : Verdict) → Says xs ys i j e v → (v ≡ Yes) ↔ Permitted xs ys i j e
+  says-yes v s = (λ h. rw h at s, λ p. says-one v Yes s p)
+
+  pub says-no : (v : Verdict) (k : ℕ) → Says xs ys i j e v → (v ≡ No k) ↔ Spoiler (Along xs ys i j e) i j k
+  says-no v k s = (λ h. rw h at s, λ t. says-one v (No k) s t)
+
+  pub says-decides : (v : Verdict) → Says xs ys i j e v → Decides (Permitted xs ys i j e) (isYes v)
+  says-decides Yes p = yes-decides p
+  says-decides (No k) s = no-decides (spoiled s)
+
+-- ---- the answer by computing
+-- what an answer says of any statement about the numbers strictly between i and j
+abbrev pub Told : (ℕ → Type 0) → ℕ → ℕ → Verdict → Type 0
+Told P i j Yes = Clear P i j
+Told P i j (No k) = Spoiler P i j k
+
+-- one number more at the beginning
+clear-more : (P : ℕ → Type 0) (i j : ℕ) → P (suc i) → Clear P (suc i) j → Clear P i j
+clear-more P i j p c l a b = elim (decLt (suc i) l) [
+  | yes h ↦ c l h b
+  | no n ↦ (let e : l ≡ suc i = omega arith in rw e p)
+]
+
+told-more : (P : ℕ → Type 0) (i j : ℕ) (v : Verdict) → P (suc i) → Told P (suc i) j v → Told P i j v
+told-more P i j Yes p c = clear-more P i j p c
+told-more P i j (No k) p s = record { after = omega (arith, s .after); before = s .before; far = s .far; lowest = clear-more P i k p (s .lowest) }
+
+lowest-told : (P : ℕ → Type 0) (f : ℕ → Bool) (i j n : ℕ) → n ≡ j - suc i → ((k : ℕ) → i < k → k < j → Decides (P k) (f k)) → Told P i j (lowest f (suc i) n)
+unfolding lowest
+lowest-told P f i j zero e d = λ l a b. absurd (omega arith)
+lowest-told P f i j (suc n) e d =
+    by-cond (Told P i j) (f (suc i))
+    (λ t. told-more P i j (lowest f (suc (suc i)) n) (d (suc i) (omega arith) (omega arith) .right t) (lowest-told P f (suc i) j n (omega arith) (λ k a b. d k (omega arith) b)))
+    (λ t. record { after = omega arith; before = omega arith; far = d (suc i) (omega arith) (omega arith) .wrong t; lowest = λ l a b. absurd (omega arith) })
+
+-- of any coordinates, about `Along` of the coordinates moved
+abbrev pub AlongAt : List ℤ → List ℤ → ℕ → ℕ → ℕ → ℕ → Type 0
+AlongAt xs ys i j e k =
+    NearAt (moved (getD xs i (pos 0))) (moved (getD ys i (pos 0))) (moved (getD xs j (pos 0))) (moved (getD ys j (pos 0)))
+    (moved (getD xs k (pos 0))) (moved (getD ys k (pos 0))) (e * e)
+
+judged-told : (xs ys : List ℤ) (i j e : ℕ) → Told (AlongAt xs ys i j e) i j (judged xs ys i j e)
+unfolding judged
+judged-told xs ys i j e = lowest-told (AlongAt xs ys i j e) _ i j (j - suc i) refl (λ k a b. reaches-decided _ _ _ _ _ _ (e * e))
+
+pub permits-told : (xs ys : List ℤ) (i j e : ℕ) → Decides (Clear (AlongAt xs ys i j e) i j) (permits xs ys i j e)
+unfolding permits
+permits-told xs ys i j e = by (judged xs ys i j e) (judged-told xs ys i j e)
+  where
+    by : (v : Verdict) → Told (AlongAt xs ys i j e) i j v → Decides (Clear (AlongAt xs ys i j e) i j) (isYes v)
+    by Yes c = yes-decides c
+    by (No k) s = no-decides (λ c. s .far (c k (s .after) (s .before)))
+
+-- of coordinates in range, about the stretch
+pub judged-says : (xs ys : List ℤ) (i j e : ℕ) → InRange xs (j + 1) → InRange ys (j + 1) → i < j → Says xs ys i j e (judged xs ys i j e)
+unfolding judged
+judged-says xs ys i j e h g o =
+    by (judged xs ys i j e)
+    (lowest-told (Along xs ys i j e) _ i j (j - suc i) refl
+    (λ k a b.
+    decides-near (stands _ (h .each i (omega arith))) (stands _ (g .each i (omega arith))) (stands _ (h .each j (omega arith))) (stands _ (g .each j (omega arith)))
+    (stands _ (h .each k (omega arith))) (stands _ (g .each k (omega arith))) (reaches-decided _ _ _ _ _ _ (e * e))))
+  where
+    by : (v : Verdict) → Told (Along xs ys i j e) i j v → Says xs ys i j e v
+    by Yes c = record { each = c }
+    by (No k) s = s
+
+pub permits-decided : (xs ys : List ℤ) (i j e : ℕ) → InRange xs (j + 1) → InRange ys (j + 1) → i < j → Decides (Permitted xs ys i j e) (permits xs ys i j e)
+unfolding permits
+permits-decided xs ys i j e h g o = says-decides xs ys i j e (judged xs ys i j e) (judged-says xs ys i j e h g o)
