@@ -31,10 +31,6 @@ gap-sq x y = go (decLe x y)
     go (yes h) = below x y h
     go (no n) = above x y (le-of-lt (lt-of-not-le n))
 
-pub gap-le : {x y m : ℕ} → x ≤ m → y ≤ m → gap x y ≤ m
-unfolding gap
-gap-le h k = omega arith
-
 -- 2xy ≤ x² + y²
 pub two-mul-le : (x y : ℕ) → 2 * (x * y) ≤ x * x + y * y
 two-mul-le x y = omega (arith, gap-sq x y)

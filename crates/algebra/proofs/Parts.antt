@@ -1,11 +1,15 @@
 -- The parts of sums, differences and multiples of integers, so that `omega`, which reads ℕ alone, reads facts about ℤ. Assumes nothing.
 use mathlib.Core.Path.{_≡_, refl, ap, sym, _∙_}
-use mathlib.Core.Bool.{Bool, true, false, not, cond}
+use mathlib.Core.Bool.{Bool, true, false, not, cond, true≢false}
 use Prim.Native.Nat.{ℕ, zero, suc, _+_, _*_, _-_, _≤_, _<_}
 use native.Mathlib.Nat.{mul-zero}
 use native.Mathlib.Omega.{arith}
 use lib.Dec.{T, ltb, ltb→lt, nltb→le}
-use lib.IntN.{ℤ, pos, negsuc, negℤ, subℕ, _+ℤ_, _-ℤ_, _*ℤ_}
+use lib.IntN.{ℤ, pos, negsuc, negℤ, natAbs, subℕ, _+ℤ_, _-ℤ_, _*ℤ_}
+use lib.Signed.{leZ}
+use borrow.Author.Tests.{leb-true, leb-false}
+use mir.Syntax.{w64}
+use mir.Val.{SFits}
 use Rattle.algebra.specs.Gap.{Square}
 use Rattle.algebra.specs.Parts.{up, dn, sq, Is}
 use Rattle.algebra.proofs.Gap.{square-swap, up-sq}
@@ -71,3 +75,61 @@ is-minus a b x y z w h g = omega (arith, parts-sub a b)
 pub is-sq : (z : ℤ) (x y : ℕ) → Is z x y → Square (sq z) x y
 is-sq (pos n) x y h = square-swap _ y x (up-sq y x n (omega arith))
 is-sq (negsuc n) x y h = up-sq x y (suc n) (omega arith)
+
+pub is-plus : (a b : ℤ) (x y z w : ℕ) → Is a x y → Is b z w → Is (a +ℤ b) (x + z) (y + w)
+is-plus a b x y z w h g = omega (arith, parts-add a b)
+
+-- the parts of a product
+cross-terms : (m n x y z w : ℕ) → x ≡ m + y → z ≡ n + w → m * n + (x * w + y * z) ≡ x * z + y * w
+cross-terms m n x y z w h g = rw (h, g) (omega arith)
+
+pub is-times : (a b : ℤ) (x y z w : ℕ) → Is a x y → Is b z w → Is (a *ℤ b) (x * z + y * w) (x * w + y * z)
+is-times (pos m) (pos n) x y z w h g = omega (arith, cross-terms m n x y z w (omega arith) (omega arith))
+is-times (pos m) (negsuc n) x y z w h g =
+    omega (arith, up-neg (pos (m * suc n)), dn-neg (pos (m * suc n)), cross-terms m (suc n) x y w z (omega arith) (omega arith))
+is-times (negsuc m) (pos n) x y z w h g =
+    omega (arith, up-neg (pos (suc m * n)), dn-neg (pos (suc m * n)), cross-terms (suc m) n y x z w (omega arith) (omega arith))
+is-times (negsuc m) (negsuc n) x y z w h g = omega (arith, cross-terms (suc m) (suc n) y x w z (omega arith) (omega arith))
+
+-- an order of z and 0 is one of its parts
+pub is-le : (z : ℤ) (x y : ℕ) → Is z x y → leZ z (pos 0) ≡ true → x ≤ y
+is-le (pos n) x y h t = omega (arith, leb-true n 0 t)
+is-le (negsuc n) x y h t = omega arith
+
+pub is-more : (z : ℤ) (x y : ℕ) → Is z x y → leZ z (pos 0) ≡ false → (x ≡ y + natAbs z) × (1 ≤ natAbs z)
+is-more (pos n) x y h t = (omega arith, leb-false n 0 t)
+is-more (negsuc n) x y h t = absurd (true≢false t)
+
+-- ---- sizes
+size-parts : (z : ℤ) → natAbs z ≡ up z + dn z
+size-parts (pos n) = omega arith
+size-parts (negsuc n) = omega arith
+
+size-neg : (z : ℤ) → natAbs (negℤ z) ≡ natAbs z
+size-neg z = omega (arith, size-parts z, size-parts (negℤ z), up-neg z, dn-neg z)
+
+size-diff : (a b : ℕ) → natAbs (subℕ a b) ≤ a + b
+size-diff a b = omega (arith, size-parts (subℕ a b), up-sub a b, dn-sub a b)
+
+pub size-add : (a b : ℤ) → natAbs (a +ℤ b) ≤ natAbs a + natAbs b
+size-add (pos a) (pos b) = omega arith
+size-add (pos a) (negsuc b) = size-diff a (suc b)
+size-add (negsuc a) (pos b) = omega (arith, size-diff b (suc a))
+size-add (negsuc a) (negsuc b) = omega arith
+
+pub size-sub : (a b : ℤ) → natAbs (a -ℤ b) ≤ natAbs a + natAbs b
+size-sub a b = omega (arith, size-add a (negℤ b), size-neg b)
+
+pub size-mul : (a b : ℤ) → natAbs (a *ℤ b) ≡ natAbs a * natAbs b
+size-mul (pos a) (pos b) = refl
+size-mul (pos a) (negsuc b) = size-neg (pos (a * suc b))
+size-mul (negsuc a) (pos b) = size-neg (pos (suc a * b))
+size-mul (negsuc a) (negsuc b) = refl
+
+pub square-is : (z : ℤ) → z *ℤ z ≡ pos (sq z)
+square-is (pos n) = refl
+square-is (negsuc n) = refl
+
+pub size-fits : (z : ℤ) → natAbs z < 9223372036854775808 → SFits w64 z
+size-fits (pos n) h = record { sfits = h }
+size-fits (negsuc n) h = record { sfits = omega arith }

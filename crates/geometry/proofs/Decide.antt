@@ -2,15 +2,13 @@
 use mathlib.Core.Path.{_≡_, refl}
 use mathlib.Core.Bool.{Bool, true, false, cond}
 use Prim.Native.Nat.{ℕ, _+_, _*_, _≤_, _<_}
-use native.Mathlib.Nat.{mul-le-mul}
 use native.Mathlib.Omega.{arith}
 use lib.Dec.{leb}
 use borrow.Author.Tests.{leb-true, leb-false}
 use Rattle.refusal.specs.Check.{Decides}
 use Rattle.refusal.proofs.Plain.{by-test}
 use Rattle.algebra.specs.Gap.{gap}
-use Rattle.algebra.proofs.Gap.{gap-le, two-mul-le}
-use Rattle.geometry.specs.Shifted.{apart, part, NearAt, Moved}
+use Rattle.geometry.specs.Shifted.{apart, part, NearAt}
 use Rattle.geometry.specs.Test.{fore, aft, cross-sq, reaches}
 use Rattle.geometry.proofs.Core.{behind, behind-only, past, past-only, abreast, abreast-only}
 use Rattle.geometry.proofs.Plane.{frame}
@@ -49,22 +47,3 @@ module _ (a x b y q z reach : ℕ) where
       (λ n. by-cond (Decides (NearAt a x b y q z reach)) (leb (aft a x b y q z + apart b y a x) (fore a x b y q z))
       (λ t. past-test (leb-true _ _ t))
       (λ m. abreast-test (leb-false _ _ n) (leb-false _ _ m)))
-
--- bounds of a squared distance, and of the cross product's square
-pub apart-bound : {a x b y : ℕ} → Moved a x → Moved b y → apart a x b y ≤ 2147483648
-unfolding apart
-apart-bound h k =
-    omega (
-      arith,
-      mul-le-mul (gap-le (h .across) (k .across)) (gap-le (h .across) (k .across)),
-      mul-le-mul (gap-le (h .upward) (k .upward)) (gap-le (h .upward) (k .upward)),
-    )
-
-pub cross-bound : (a x b y q z : ℕ) → Moved a x → Moved b y → Moved q z → cross-sq a x b y q z ≤ 4611686018427387904
-cross-bound a x b y q z ha hb hq =
-    omega (
-      arith,
-      frame a x b y q z .lagrange,
-      two-mul-le (fore a x b y q z) (aft a x b y q z),
-      mul-le-mul (apart-bound hb ha) (apart-bound hq ha),
-    )

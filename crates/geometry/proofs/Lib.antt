@@ -6,3 +6,4 @@ pub mod Move
 pub mod Permits
 pub mod Plane
 pub mod Spoiler
+pub mod Ways

@@ -3,3 +3,4 @@ pub mod Near
 pub mod Shifted
 pub mod Spoiler
 pub mod Test
+pub mod Way

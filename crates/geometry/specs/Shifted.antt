@@ -1,4 +1,4 @@
--- The same geometry over naturals: coordinates moved by 16,384, so that none is negative. Only private functions' contracts cite it. Assumes nothing.
+-- The same geometry over naturals: coordinates moved by 16,384, so that none is negative. Only proofs and the answer by computing cite it. Assumes nothing.
 use Prim.Native.Nat.{ℕ, _+_, _*_, _≤_}
 use Rattle.algebra.specs.Gap.{gap}
 
@@ -21,8 +21,3 @@ pub record Close (M : ℕ → ℕ → ℕ) (reach : ℕ) : Type 0 where
 -- `Near`, of (a, x), (b, y) and (q, z), by the square of the tolerance
 abbrev pub NearAt : ℕ → ℕ → ℕ → ℕ → ℕ → ℕ → ℕ → Type 0
 NearAt a x b y q z reach = Close (λ r s. part a b q r s + part x y z r s) reach
-
--- coordinates that are moved so
-pub record Moved (a x : ℕ) : Type 0 where
-  pub across : a ≤ 32768
-  pub upward : x ≤ 32768

@@ -1,5 +1,5 @@
 -- `costs::finest` meets its contract. The loop's invariant: no level below k permits the stretch, and at level k its samples before `from` lie near. Assumes nothing.
-use mathlib.Core.Path.{_≡_, _∙_, sym}
+use mathlib.Core.Path.{_≡_}
 use mathlib.Core.Bool.{false}
 use mathlib.Core.Logic.{⊎-elim}
 use native.Mathlib.Nat.{eq-or-lt-of-le}

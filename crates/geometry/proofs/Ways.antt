@@ -1,0 +1,176 @@
+-- The three answers of the code, of the ways from a segment's beginning to its end and to a sample, decide `NearBy`. The ways are moved by 32,768, which makes them
+-- points of the plane over ℕ. Assumes nothing.
+use mathlib.Core.Path.{_≡_, refl, sym}
+use mathlib.Core.Bool.{Bool, true, false}
+use Prim.Native.Nat.{ℕ, _+_, _*_, _-_, _≤_, _<_}
+use native.Mathlib.Nat.{mul-le-mul}
+use native.Mathlib.Omega.{arith}
+use lib.Dec.{leb}
+use lib.IntN.{ℤ, pos, negsuc, natAbs, _+ℤ_, _-ℤ_, _*ℤ_}
+use lib.Signed.{leZ, mag}
+use mir.Syntax.{w64}
+use mir.Val.{SFits, toZ, ofZ}
+use mir.Facts.{toZ-ofZ}
+use Rattle.refusal.specs.Check.{Decides}
+use Rattle.refusal.proofs.Plain.{carry}
+use Rattle.algebra.specs.Gap.{gap}
+use Rattle.algebra.specs.Parts.{up, dn, sq, Is}
+use Rattle.algebra.proofs.Gap.{gap-sq, square-unique}
+use Rattle.algebra.proofs.Parts.{is-sub, is-minus, is-plus, is-times, is-sq, is-le, is-more, size-add, size-sub, size-mul, size-fits}
+use Rattle.geometry.specs.Coordinate.{Coord}
+use Rattle.geometry.specs.Near.{Near}
+use Rattle.geometry.specs.Shifted.{apart, part, Close, NearAt}
+use Rattle.geometry.specs.Way.{Way, NearBy}
+use Rattle.geometry.specs.Test.{fore, aft, cross-sq}
+use Rattle.geometry.proofs.Decide.{behind-test, past-test, abreast-test}
+use Rattle.geometry.proofs.Link.{way-axis}
+
+abbrev K : ℕ
+K = 32768
+
+abbrev from : ℤ → ℕ
+from z = K + up z - dn z
+
+from-is : (z : ℤ) → natAbs z ≤ 32768 → Is z (from z) K
+from-is (pos n) h = omega arith
+from-is (negsuc n) h = omega arith
+
+squares : (z : ℤ) (x y : ℕ) → Is z x y → sq z ≡ gap x y * gap x y
+squares z x y h = square-unique _ _ x y (is-sq z x y h) (gap-sq x y)
+
+close-same : {M N : ℕ → ℕ → ℕ} {reach : ℕ} → ((r s : ℕ) → M r s ≡ N r s) → Close M reach → Close N reach
+close-same e c = record { s = c .s; r = c .r; along = c .along; whole = c .whole; within = rw (← e (c .r) (c .s)) (c .within) }
+
+-- the sides of the dot and of the cross product
+abbrev pub dot : ℤ → ℤ → ℤ → ℤ → ℤ
+dot dx dy px py = px *ℤ dx +ℤ py *ℤ dy
+
+abbrev pub cross : ℤ → ℤ → ℤ → ℤ → ℤ
+cross dx dy px py = px *ℤ dy -ℤ py *ℤ dx
+
+module _ (dx dy px py : ℤ) (reach : ℕ) (w : Way dx dy) (v : Way px py) where
+  b : Is dx (from dx) K
+  b = from-is dx (w .across)
+
+  y : Is dy (from dy) K
+  y = from-is dy (w .upward)
+
+  q : Is px (from px) K
+  q = from-is px (v .across)
+
+  z : Is py (from py) K
+  z = from-is py (v .upward)
+
+  abbrev Moved-near : Type 0
+  Moved-near = NearAt K K (from dx) (from dy) (from px) (from py) reach
+
+  same : (r s : ℕ) → sq (pos r *ℤ px -ℤ pos s *ℤ dx) + sq (pos r *ℤ py -ℤ pos s *ℤ dy) ≡ part K (from dx) (from px) r s + part K (from dy) (from py) r s
+  same r s = rw (way-axis q b r s, way-axis z y r s)
+
+  moved-back : {t : Bool} → Decides Moved-near t → Decides (NearBy dx dy px py reach) t
+  moved-back = carry (close-same (λ r s. sym (same r s))) (close-same same)
+
+  dot-is : Is (dot dx dy px py) (fore K K (from dx) (from dy) (from px) (from py)) (aft K K (from dx) (from dy) (from px) (from py))
+  dot-is = is-plus _ _ _ _ _ _ (is-times _ _ _ _ _ _ q b) (is-times _ _ _ _ _ _ z y)
+
+  cross-is : sq (cross dx dy px py) ≡ cross-sq K K (from dx) (from dy) (from px) (from py)
+  unfolding cross-sq
+  cross-is = squares _ _ _ (is-minus _ _ _ _ _ _ (is-times _ _ _ _ _ _ q y) (is-times _ _ _ _ _ _ z b))
+
+  begin-is : sq px + sq py ≡ apart (from px) (from py) K K
+  unfolding apart
+  begin-is = rw (squares px _ _ q, squares py _ _ z)
+
+  end-is : sq (px -ℤ dx) + sq (py -ℤ dy) ≡ apart (from px) (from py) (from dx) (from dy)
+  unfolding apart
+  end-is = rw (squares _ _ _ (is-sub _ _ _ _ K q b), squares _ _ _ (is-sub _ _ _ _ K z y))
+
+  length-is : sq dx + sq dy ≡ apart (from dx) (from dy) K K
+  unfolding apart
+  length-is = rw (squares dx _ _ b, squares dy _ _ y)
+
+  pub behind-way : leZ (dot dx dy px py) (pos 0) ≡ true → Decides (NearBy dx dy px py reach) (leb (sq px + sq py) reach)
+  behind-way t = moved-back (rw begin-is (behind-test K K (from dx) (from dy) (from px) (from py) reach (is-le _ _ _ dot-is t)))
+
+  module _ (t : leZ (dot dx dy px py) (pos 0) ≡ false) where
+    pub past-way : sq dx + sq dy ≤ natAbs (dot dx dy px py) → Decides (NearBy dx dy px py reach) (leb (sq (px -ℤ dx) + sq (py -ℤ dy)) reach)
+    past-way h =
+        moved-back (rw end-is (past-test K K (from dx) (from dy) (from px) (from py) reach (omega (arith, is-more _ _ _ dot-is t .0, length-is))))
+
+    pub abreast-way : natAbs (dot dx dy px py) < sq dx + sq dy
+        → Decides (NearBy dx dy px py reach) (leb (sq (cross dx dy px py)) (reach * (sq dx + sq dy)))
+    abreast-way h =
+        let m = is-more _ _ _ dot-is t in
+        moved-back (rw (cross-is, length-is) (abreast-test K K (from dx) (from dy) (from px) (from py) reach (omega (arith, m .0, m .1)) (omega (arith, m .0, length-is))))
+
+-- ---- between samples
+pub way-size : {a b : ℤ} → Coord a → Coord b → natAbs (b -ℤ a) ≤ 32768
+way-size {a} {b} h g = omega (arith, size-sub b a, h .low, g .low)
+
+pub near-by : {ax ay bx by qx qy : ℤ} {e : ℕ} {t : Bool} → Decides (NearBy (bx -ℤ ax) (by -ℤ ay) (qx -ℤ ax) (qy -ℤ ay) (e * e)) t → Decides (Near ax ay bx by qx qy e) t
+near-by =
+    carry (λ n. record { s = n .s; r = n .r; along = n .along; whole = n .whole; within = n .within })
+    (λ n. record { s = n .s; r = n .r; along = n .along; whole = n .whole; within = n .within })
+
+-- ---- what the code works out fits a signed 64-bit number
+pub one-fits : (z : ℤ) → natAbs z ≤ 32768 → SFits w64 z
+one-fits z h = size-fits z (omega arith)
+
+product-size : (a b : ℤ) → natAbs a ≤ 32768 → natAbs b ≤ 32768 → natAbs (a *ℤ b) ≤ 1073741824
+product-size a b h g = omega (arith, size-mul a b, mul-le-mul h g)
+
+pub product-fits : (a b : ℤ) → natAbs a ≤ 32768 → natAbs b ≤ 32768 → SFits w64 (a *ℤ b)
+product-fits a b h g = size-fits (a *ℤ b) (omega (arith, product-size a b h g))
+
+-- a number that was handed on by its bits
+abbrev pub back : ℤ → ℤ
+back z = toZ w64 (ofZ w64 z)
+
+pub handed : (z : ℤ) → mag z < 9223372036854775808 → back z ≡ z
+handed z h = toZ-ofZ (record { sfits = h })
+
+module _ (dx dy px py : ℤ) (w : Way dx dy) (v : Way px py) where
+  pub ways-back : (back dx ≡ dx) × (back dy ≡ dy) × (back px ≡ px) × (back py ≡ py)
+  ways-back = (toZ-ofZ (one-fits dx (w .across)), toZ-ofZ (one-fits dy (w .upward)), toZ-ofZ (one-fits px (v .across)), toZ-ofZ (one-fits py (v .upward)))
+
+  pub dot-size : natAbs (dot dx dy px py) ≤ 2147483648
+  dot-size =
+      omega (arith, size-add (px *ℤ dx) (py *ℤ dy), product-size px dx (v .across) (w .across), product-size py dy (v .upward) (w .upward))
+
+  pub dot-fits : SFits w64 (dot dx dy px py)
+  dot-fits = size-fits (dot dx dy px py) (omega (arith, dot-size))
+
+  -- each step of it handed on so
+  pub dot-back : back (back (back px *ℤ back dx) +ℤ back (back py *ℤ back dy)) ≡ dot dx dy px py
+  dot-back =
+      let e = ways-back in
+      rw (e .0, e .1, e .2, e .3, toZ-ofZ (product-fits px dx (v .across) (w .across)), toZ-ofZ (product-fits py dy (v .upward) (w .upward)), toZ-ofZ dot-fits) refl
+
+  pub rest-size : (natAbs (px -ℤ dx) ≤ 65536) × (natAbs (py -ℤ dy) ≤ 65536)
+  rest-size = (omega (arith, size-sub px dx, v .across, w .across), omega (arith, size-sub py dy, v .upward, w .upward))
+
+  pub rest-fits : SFits w64 (px -ℤ dx) × SFits w64 (py -ℤ dy)
+  rest-fits = (size-fits (px -ℤ dx) (omega (arith, rest-size .0)), size-fits (py -ℤ dy) (omega (arith, rest-size .1)))
+
+  pub rest-back : (back (back px -ℤ back dx) ≡ px -ℤ dx) × (back (back py -ℤ back dy) ≡ py -ℤ dy)
+  rest-back =
+      let e = ways-back in
+      (rw (e .0, e .2, toZ-ofZ (rest-fits .0)) refl, rw (e .1, e .3, toZ-ofZ (rest-fits .1)) refl)
+
+  cross-size : natAbs (cross dx dy px py) ≤ 2147483648
+  cross-size =
+      omega (arith, size-sub (px *ℤ dy) (py *ℤ dx), product-size px dy (v .across) (w .upward), product-size py dx (v .upward) (w .across))
+
+  pub cross-fits : SFits w64 (cross dx dy px py)
+  cross-fits = size-fits (cross dx dy px py) (omega (arith, cross-size))
+
+  pub cross-back : back (back (back px *ℤ back dy) -ℤ back (back py *ℤ back dx)) ≡ cross dx dy px py
+  cross-back =
+      let e = ways-back in
+      rw (e .0, e .1, e .2, e .3, toZ-ofZ (product-fits px dy (v .across) (w .upward)), toZ-ofZ (product-fits py dx (v .upward) (w .across)), toZ-ofZ cross-fits) refl
+
+  pub cross-square : sq (cross dx dy px py) ≤ 4611686018427387904
+  cross-square = omega (arith, mul-le-mul cross-size cross-size)
+
+  pub square-fits : SFits w64 (pos (sq (cross dx dy px py)))
+  square-fits = size-fits (pos (sq (cross dx dy px py))) (omega (arith, cross-square))
