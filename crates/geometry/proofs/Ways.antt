@@ -1,13 +1,13 @@
 -- The three answers of the code, of the ways from a segment's beginning to its end and to a sample, decide `NearBy`. The ways are moved by 32,768, which makes them
 -- points of the plane over ℕ. Assumes nothing.
 use mathlib.Core.Path.{_≡_, refl, sym}
-use mathlib.Core.Bool.{Bool, true, false}
+use mathlib.Core.Bool.{Bool, true, false, true≢false}
 use Prim.Native.Nat.{ℕ, _+_, _*_, _-_, _≤_, _<_}
 use native.Mathlib.Nat.{mul-le-mul}
 use native.Mathlib.Omega.{arith}
-use lib.Dec.{leb}
+use lib.Dec.{T, leb}
 use lib.IntN.{ℤ, pos, negsuc, natAbs, _+ℤ_, _-ℤ_, _*ℤ_}
-use lib.Signed.{leZ, mag}
+use lib.Signed.{leZ, mag, nonNeg}
 use mir.Syntax.{w64}
 use mir.Val.{SFits, toZ, ofZ}
 use mir.Facts.{toZ-ofZ}
@@ -16,7 +16,7 @@ use Rattle.refusal.proofs.Plain.{carry}
 use Rattle.algebra.specs.Gap.{gap}
 use Rattle.algebra.specs.Parts.{up, dn, sq, Is}
 use Rattle.algebra.proofs.Gap.{gap-sq, square-unique}
-use Rattle.algebra.proofs.Parts.{is-sub, is-minus, is-plus, is-times, is-sq, is-le, is-more, size-add, size-sub, size-mul, size-fits}
+use Rattle.algebra.proofs.Parts.{is-sub, is-minus, is-plus, is-times, is-sq, is-le, is-more, size-add, size-sub, size-mul, size-fits, square-is}
 use Rattle.geometry.specs.Coordinate.{Coord}
 use Rattle.geometry.specs.Near.{Near}
 use Rattle.geometry.specs.Shifted.{apart, part, Close, NearAt}
@@ -25,6 +25,7 @@ use Rattle.geometry.specs.Test.{fore, aft, cross-sq}
 use Rattle.geometry.proofs.Decide.{behind-test, past-test, abreast-test}
 use Rattle.geometry.proofs.Link.{way-axis}
 
+-- how far a way is moved, and a way moved so
 abbrev K : ℕ
 K = 32768
 
@@ -41,14 +42,14 @@ squares z x y h = square-unique _ _ x y (is-sq z x y h) (gap-sq x y)
 close-same : {M N : ℕ → ℕ → ℕ} {reach : ℕ} → ((r s : ℕ) → M r s ≡ N r s) → Close M reach → Close N reach
 close-same e c = record { s = c .s; r = c .r; along = c .along; whole = c .whole; within = rw (← e (c .r) (c .s)) (c .within) }
 
--- the sides of the dot and of the cross product
+-- the dot and the cross product
 abbrev pub dot : ℤ → ℤ → ℤ → ℤ → ℤ
 dot dx dy px py = px *ℤ dx +ℤ py *ℤ dy
 
 abbrev pub cross : ℤ → ℤ → ℤ → ℤ → ℤ
 cross dx dy px py = px *ℤ dy -ℤ py *ℤ dx
 
-module _ (dx dy px py : ℤ) (reach : ℕ) (w : Way dx dy) (v : Way px py) where
+module _ {dx dy px py : ℤ} (reach : ℕ) (w : Way dx dy) (v : Way px py) where
   b : Is dx (from dx) K
   b = from-is dx (w .across)
 
@@ -119,8 +120,13 @@ one-fits z h = size-fits z (omega arith)
 product-size : (a b : ℤ) → natAbs a ≤ 32768 → natAbs b ≤ 32768 → natAbs (a *ℤ b) ≤ 1073741824
 product-size a b h g = omega (arith, size-mul a b, mul-le-mul h g)
 
-pub product-fits : (a b : ℤ) → natAbs a ≤ 32768 → natAbs b ≤ 32768 → SFits w64 (a *ℤ b)
+product-fits : (a b : ℤ) → natAbs a ≤ 32768 → natAbs b ≤ 32768 → SFits w64 (a *ℤ b)
 product-fits a b h g = size-fits (a *ℤ b) (omega (arith, product-size a b h g))
+
+-- what is not at most 0 is not negative
+nonneg : (z : ℤ) → leZ z (pos 0) ≡ false → T (nonNeg z)
+nonneg (pos n) t = tt
+nonneg (negsuc n) t = absurd (true≢false t)
 
 -- a number that was handed on by its bits
 abbrev pub back : ℤ → ℤ
@@ -129,9 +135,20 @@ back z = toZ w64 (ofZ w64 z)
 pub handed : (z : ℤ) → mag z < 9223372036854775808 → back z ≡ z
 handed z h = toZ-ofZ (record { sfits = h })
 
-module _ (dx dy px py : ℤ) (w : Way dx dy) (v : Way px py) where
+module _ {dx dy px py : ℤ} (w : Way dx dy) (v : Way px py) where
   pub ways-back : (back dx ≡ dx) × (back dy ≡ dy) × (back px ≡ px) × (back py ≡ py)
   ways-back = (toZ-ofZ (one-fits dx (w .across)), toZ-ofZ (one-fits dy (w .upward)), toZ-ofZ (one-fits px (v .across)), toZ-ofZ (one-fits py (v .upward)))
+
+  pub products-fit : SFits w64 (px *ℤ dx) × SFits w64 (py *ℤ dy) × SFits w64 (px *ℤ dy) × SFits w64 (py *ℤ dx)
+  products-fit = (
+    product-fits px dx (v .across) (w .across),
+    product-fits py dy (v .upward) (w .upward),
+    product-fits px dy (v .across) (w .upward),
+    product-fits py dx (v .upward) (w .across),
+  )
+
+  pub dot-more : leZ (dot dx dy px py) (pos 0) ≡ false → T (nonNeg (dot dx dy px py))
+  dot-more t = nonneg (dot dx dy px py) t
 
   pub dot-size : natAbs (dot dx dy px py) ≤ 2147483648
   dot-size =
@@ -144,7 +161,7 @@ module _ (dx dy px py : ℤ) (w : Way dx dy) (v : Way px py) where
   pub dot-back : back (back (back px *ℤ back dx) +ℤ back (back py *ℤ back dy)) ≡ dot dx dy px py
   dot-back =
       let e = ways-back in
-      rw (e .0, e .1, e .2, e .3, toZ-ofZ (product-fits px dx (v .across) (w .across)), toZ-ofZ (product-fits py dy (v .upward) (w .upward)), toZ-ofZ dot-fits) refl
+      rw (e .0, e .1, e .2, e .3, toZ-ofZ (products-fit .0), toZ-ofZ (products-fit .1), toZ-ofZ dot-fits) refl
 
   pub rest-size : (natAbs (px -ℤ dx) ≤ 65536) × (natAbs (py -ℤ dy) ≤ 65536)
   rest-size = (omega (arith, size-sub px dx, v .across, w .across), omega (arith, size-sub py dy, v .upward, w .upward))
@@ -164,10 +181,13 @@ module _ (dx dy px py : ℤ) (w : Way dx dy) (v : Way px py) where
   pub cross-fits : SFits w64 (cross dx dy px py)
   cross-fits = size-fits (cross dx dy px py) (omega (arith, cross-size))
 
-  pub cross-back : back (back (back px *ℤ back dy) -ℤ back (back py *ℤ back dx)) ≡ cross dx dy px py
+  cross-back : back (back (back px *ℤ back dy) -ℤ back (back py *ℤ back dx)) ≡ cross dx dy px py
   cross-back =
       let e = ways-back in
-      rw (e .0, e .1, e .2, e .3, toZ-ofZ (product-fits px dy (v .across) (w .upward)), toZ-ofZ (product-fits py dx (v .upward) (w .across)), toZ-ofZ cross-fits) refl
+      rw (e .0, e .1, e .2, e .3, toZ-ofZ (products-fit .2), toZ-ofZ (products-fit .3), toZ-ofZ cross-fits) refl
+
+  pub square-back : let c = back (back (back px *ℤ back dy) -ℤ back (back py *ℤ back dx)) in c *ℤ c ≡ pos (sq (cross dx dy px py))
+  square-back = rw cross-back (square-is (cross dx dy px py))
 
   pub cross-square : sq (cross dx dy px py) ≤ 4611686018427387904
   cross-square = omega (arith, mul-le-mul cross-size cross-size)

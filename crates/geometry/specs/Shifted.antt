@@ -1,4 +1,4 @@
--- The same geometry over naturals: coordinates moved by 16,384, so that none is negative. Only proofs and the answer by computing cite it. Assumes nothing.
+-- The same geometry over naturals: coordinates moved by 16,384, so that none is negative. No public contract cites it. Assumes nothing.
 use Prim.Native.Nat.{ℕ, _+_, _*_, _≤_}
 use Rattle.algebra.specs.Gap.{gap}
 

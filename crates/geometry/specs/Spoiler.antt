@@ -7,7 +7,7 @@ use Rattle.geometry.specs.declared.Verdict.{Verdict}
 use Rattle.geometry.specs.declared.Verdict.the-variants.{Yes, No}
 use Rattle.geometry.specs.Near.{Along, Permitted}
 
--- every number strictly between i and k is fine
+-- each sample strictly between i and k is fine
 abbrev pub Clear : (ℕ → Type 0) → ℕ → ℕ → Type 0
 Clear Fine i k = (l : ℕ) → i < l → l < k → Fine l
 

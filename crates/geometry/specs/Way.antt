@@ -1,4 +1,4 @@
--- The same geometry by ways from a segment's beginning. Only private functions' contracts cite it. Assumes nothing.
+-- The same geometry by ways from a segment's beginning. No public contract cites it. Assumes nothing.
 use Prim.Native.Nat.{ℕ, _+_, _≤_}
 use lib.IntN.{ℤ, pos, natAbs, _-ℤ_, _*ℤ_}
 use Rattle.algebra.specs.Parts.{sq}
