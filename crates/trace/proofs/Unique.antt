@@ -1,5 +1,6 @@
 -- One theorem for each call: any two results that its promise allows for one entry, answers and buffers after the call, are equal. Assumes nothing.
 use mathlib.Core.Path.{_≡_, refl, sym, ap, _∙_}
+use mathlib.Core.Logic.{_↔_}
 use mathlib.Core.List.{List}
 use Prim.Native.Nat.{ℕ, _+_, _-_}
 use native.Mathlib.Omega.{arith}
@@ -10,7 +11,10 @@ use Rattle.refusal.specs.declared.Outcome.{Outcome}
 use Rattle.refusal.specs.declared.Outcome.the-variants.{Done, Refused}
 use Rattle.refusal.specs.Number.{code}
 use Rattle.refusal.proofs.Rows.{numbered, number-one, code-one, by-outcome}
+use Rattle.geometry.specs.Near.{Along}
+use Rattle.geometry.specs.Spoiler.{Spoiler}
 use Rattle.geometry.proofs.Spoiler.{spoiler-one, spoiled}
+use Rattle.costs.specs.Costs.{Permit}
 use Rattle.trace.specs.declared.Trace.{Trace}
 use Rattle.trace.specs.declared.Started.{Started}
 use Rattle.trace.specs.declared.Changed.{Changed}
@@ -100,6 +104,14 @@ ask-one a xs ys k i j r q u u′ w w′ A B = (
   A .lent .0 ∙ sym (B .lent .0),
   A .lent .1 ∙ sym (B .lent .1),
 )
+
+-- where the call is not refused: yes exactly when the stretch is permitted, and no with l exactly when l is the lowest sample that lies too far away
+module _ (a : Trace) (xs ys : List ℤ) (k i j : ℕ) (r : Asked) (u w : List ℤ) (G : AskGives a xs ys k i j r u w) (n : asked r ≡ 0) where
+  pub ask-yes : (r ≡ Asked.Yes) ↔ Permit xs ys (a .tolerances) k i j
+  ask-yes = (λ h. rw h at (G .says), λ p. says-one xs ys i j (getD (a .tolerances) (k - 1) 0) r Asked.Yes n (G .says) p)
+
+  pub ask-no : (l : ℕ) → (r ≡ Asked.No l) ↔ Spoiler (Along xs ys i j (getD (a .tolerances) (k - 1) 0)) i j l
+  ask-no l = (λ h. rw h at (G .says), λ s. says-one xs ys i j (getD (a .tolerances) (k - 1) 0) r (Asked.No l) n (G .says) s)
 
 -- ---- read
 pub levels-same : {r q : Levels} → r .outcome ≡ q .outcome → r .segments ≡ q .segments → r .total ≡ q .total → r ≡ q
