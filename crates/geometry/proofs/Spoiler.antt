@@ -33,6 +33,9 @@ lowest-le {k = k} {l = l} s t = elim (decLt l k) [
 pub spoiler-one : {P : ℕ → Type 0} {i j k l : ℕ} → Spoiler P i j k → Spoiler P i j l → k ≡ l
 spoiler-one s t = le-antisymm (lowest-le s t) (lowest-le t s)
 
+not-clear : {P : ℕ → Type 0} {i j k : ℕ} → Spoiler P i j k → Clear P i j → ⊥
+not-clear s c = s .far (c _ (s .after) (s .before))
+
 -- what is equivalent between i and j has the same
 pub spoiler-carried : {P Q : ℕ → Type 0} {i j k : ℕ} → ((l : ℕ) → i < l → l < j → P l ↔ Q l) → Spoiler P i j k → Spoiler Q i j k
 spoiler-carried f s = record {
@@ -44,7 +47,7 @@ spoiler-carried f s = record {
 
 -- ---- the answer
 pub spoiled : {xs ys : List ℤ} {i j e k : ℕ} → Spoiler (Along xs ys i j e) i j k → Permitted xs ys i j e → ⊥
-spoiled s p = s .far (p .each _ (s .after) (s .before))
+spoiled s p = not-clear s (p .each)
 
 module _ (xs ys : List ℤ) (i j e : ℕ) where
   -- any two are equal
@@ -106,7 +109,7 @@ permits-told xs ys i j e = by (judged xs ys i j e) (judged-told xs ys i j e)
   where
     by : (v : Verdict) → Told (AlongAt xs ys i j e) i j v → Decides (Clear (AlongAt xs ys i j e) i j) (isYes v)
     by Yes c = yes-decides c
-    by (No k) s = no-decides (λ c. s .far (c k (s .after) (s .before)))
+    by (No k) s = no-decides (not-clear s)
 
 -- of coordinates in range, about the stretch
 pub judged-says : (xs ys : List ℤ) (i j e : ℕ) → InRange xs (j + 1) → InRange ys (j + 1) → i < j → Says xs ys i j e (judged xs ys i j e)

@@ -1,6 +1,6 @@
 -- The three answers of the code, of the ways from a segment's beginning to its end and to a sample, decide `NearBy`. The ways are moved by 32,768, which makes them
 -- points of the plane over ℕ. Assumes nothing.
-use mathlib.Core.Path.{_≡_, refl, sym}
+use mathlib.Core.Path.{_≡_, refl}
 use mathlib.Core.Bool.{Bool, true, false, true≢false}
 use Prim.Native.Nat.{ℕ, _+_, _*_, _-_, _≤_, _<_}
 use native.Mathlib.Nat.{mul-le-mul}
@@ -12,18 +12,16 @@ use mir.Syntax.{w64}
 use mir.Val.{SFits, toZ, ofZ}
 use mir.Facts.{toZ-ofZ}
 use Rattle.refusal.specs.Check.{Decides}
-use Rattle.refusal.proofs.Plain.{carry}
 use Rattle.algebra.specs.Gap.{gap}
 use Rattle.algebra.specs.Parts.{up, dn, sq, Is}
 use Rattle.algebra.proofs.Gap.{gap-sq, square-unique}
 use Rattle.algebra.proofs.Parts.{is-sub, is-minus, is-plus, is-times, is-sq, is-le, is-more, size-add, size-sub, size-mul, size-fits, square-is}
 use Rattle.geometry.specs.Coordinate.{Coord}
-use Rattle.geometry.specs.Near.{Near}
-use Rattle.geometry.specs.Shifted.{apart, part, Close, NearAt}
+use Rattle.geometry.specs.Shifted.{apart, NearAt}
 use Rattle.geometry.specs.Way.{Way, NearBy}
 use Rattle.geometry.specs.Test.{fore, aft, cross-sq}
 use Rattle.geometry.proofs.Decide.{behind-test, past-test, abreast-test}
-use Rattle.geometry.proofs.Link.{way-axis}
+use Rattle.geometry.proofs.Link.{by-points}
 
 -- how far a way is moved, and a way moved so
 abbrev K : ℕ
@@ -38,9 +36,6 @@ from-is (negsuc n) h = omega arith
 
 squares : (z : ℤ) (x y : ℕ) → Is z x y → sq z ≡ gap x y * gap x y
 squares z x y h = square-unique _ _ x y (is-sq z x y h) (gap-sq x y)
-
-close-same : {M N : ℕ → ℕ → ℕ} {reach : ℕ} → ((r s : ℕ) → M r s ≡ N r s) → Close M reach → Close N reach
-close-same e c = record { s = c .s; r = c .r; along = c .along; whole = c .whole; within = rw (← e (c .r) (c .s)) (c .within) }
 
 -- the dot and the cross product
 abbrev pub dot : ℤ → ℤ → ℤ → ℤ → ℤ
@@ -62,14 +57,8 @@ module _ {dx dy px py : ℤ} (reach : ℕ) (w : Way dx dy) (v : Way px py) where
   z : Is py (from py) K
   z = from-is py (v .upward)
 
-  abbrev Moved-near : Type 0
-  Moved-near = NearAt K K (from dx) (from dy) (from px) (from py) reach
-
-  same : (r s : ℕ) → sq (pos r *ℤ px -ℤ pos s *ℤ dx) + sq (pos r *ℤ py -ℤ pos s *ℤ dy) ≡ part K (from dx) (from px) r s + part K (from dy) (from py) r s
-  same r s = rw (way-axis q b r s, way-axis z y r s)
-
-  moved-back : {t : Bool} → Decides Moved-near t → Decides (NearBy dx dy px py reach) t
-  moved-back = carry (close-same (λ r s. sym (same r s))) (close-same same)
+  by-ways : {t : Bool} → Decides (NearAt K K (from dx) (from dy) (from px) (from py) reach) t → Decides (NearBy dx dy px py reach) t
+  by-ways = by-points b y q z
 
   dot-is : Is (dot dx dy px py) (fore K K (from dx) (from dy) (from px) (from py)) (aft K K (from dx) (from dy) (from px) (from py))
   dot-is = is-plus _ _ _ _ _ _ (is-times _ _ _ _ _ _ q b) (is-times _ _ _ _ _ _ z y)
@@ -91,31 +80,29 @@ module _ {dx dy px py : ℤ} (reach : ℕ) (w : Way dx dy) (v : Way px py) where
   length-is = rw (squares dx _ _ b, squares dy _ _ y)
 
   pub behind-way : leZ (dot dx dy px py) (pos 0) ≡ true → Decides (NearBy dx dy px py reach) (leb (sq px + sq py) reach)
-  behind-way t = moved-back (rw begin-is (behind-test K K (from dx) (from dy) (from px) (from py) reach (is-le _ _ _ dot-is t)))
+  behind-way t = by-ways (rw begin-is (behind-test K K (from dx) (from dy) (from px) (from py) reach (is-le _ _ _ dot-is t)))
 
   module _ (t : leZ (dot dx dy px py) (pos 0) ≡ false) where
     pub past-way : sq dx + sq dy ≤ natAbs (dot dx dy px py) → Decides (NearBy dx dy px py reach) (leb (sq (px -ℤ dx) + sq (py -ℤ dy)) reach)
     past-way h =
-        moved-back (rw end-is (past-test K K (from dx) (from dy) (from px) (from py) reach (omega (arith, is-more _ _ _ dot-is t .0, length-is))))
+        by-ways (rw end-is (past-test K K (from dx) (from dy) (from px) (from py) reach (omega (arith, is-more _ _ _ dot-is t .0, length-is))))
 
     pub abreast-way : natAbs (dot dx dy px py) < sq dx + sq dy
         → Decides (NearBy dx dy px py reach) (leb (sq (cross dx dy px py)) (reach * (sq dx + sq dy)))
     abreast-way h =
         let m = is-more _ _ _ dot-is t in
-        moved-back (rw (cross-is, length-is) (abreast-test K K (from dx) (from dy) (from px) (from py) reach (omega (arith, m .0, m .1)) (omega (arith, m .0, length-is))))
+        by-ways (rw (cross-is, length-is) (abreast-test K K (from dx) (from dy) (from px) (from py) reach (omega (arith, m .0, m .1)) (omega (arith, m .0, length-is))))
 
 -- ---- between samples
 pub way-size : {a b : ℤ} → Coord a → Coord b → natAbs (b -ℤ a) ≤ 32768
 way-size {a} {b} h g = omega (arith, size-sub b a, h .low, g .low)
 
-pub near-by : {ax ay bx by qx qy : ℤ} {e : ℕ} {t : Bool} → Decides (NearBy (bx -ℤ ax) (by -ℤ ay) (qx -ℤ ax) (qy -ℤ ay) (e * e)) t → Decides (Near ax ay bx by qx qy e) t
-near-by =
-    carry (λ n. record { s = n .s; r = n .r; along = n .along; whole = n .whole; within = n .within })
-    (λ n. record { s = n .s; r = n .r; along = n .along; whole = n .whole; within = n .within })
-
 -- ---- what the code works out fits a signed 64-bit number
-pub one-fits : (z : ℤ) → natAbs z ≤ 32768 → SFits w64 z
+one-fits : (z : ℤ) → natAbs z ≤ 65536 → SFits w64 z
 one-fits z h = size-fits z (omega arith)
+
+pub way-fits : {a b : ℤ} → Coord a → Coord b → SFits w64 (b -ℤ a)
+way-fits {a} {b} h g = one-fits (b -ℤ a) (omega (arith, way-size h g))
 
 product-size : (a b : ℤ) → natAbs a ≤ 32768 → natAbs b ≤ 32768 → natAbs (a *ℤ b) ≤ 1073741824
 product-size a b h g = omega (arith, size-mul a b, mul-le-mul h g)
@@ -135,9 +122,29 @@ back z = toZ w64 (ofZ w64 z)
 pub handed : (z : ℤ) → mag z < 9223372036854775808 → back z ≡ z
 handed z h = toZ-ofZ (record { sfits = h })
 
+-- a sum of two squares, each step of it handed on so
+module _ (x y : ℤ) (h : natAbs x ≤ 65536) (g : natAbs y ≤ 65536) where
+  pub one-square : (back x *ℤ back x ≡ pos (sq x)) × (back y *ℤ back y ≡ pos (sq y))
+  one-square = (rw (toZ-ofZ (one-fits x h)) (square-is x), rw (toZ-ofZ (one-fits y g)) (square-is y))
+
+  pub one-square-fits : SFits w64 (pos (sq x)) × SFits w64 (pos (sq y))
+  one-square-fits = (size-fits (pos (sq x)) (omega (arith, mul-le-mul h h)), size-fits (pos (sq y)) (omega (arith, mul-le-mul g g)))
+
+  pub squares-size : sq x + sq y ≤ 8589934592
+  squares-size = omega (arith, mul-le-mul h h, mul-le-mul g g)
+
+  pub squares-fit : SFits w64 (pos (sq x + sq y))
+  squares-fit = size-fits (pos (sq x + sq y)) (omega (arith, squares-size))
+
+  pub squares-sum : back (back x *ℤ back x) +ℤ back (back y *ℤ back y) ≡ pos (sq x + sq y)
+  squares-sum = rw (one-square .0, one-square .1, toZ-ofZ (one-square-fits .0), toZ-ofZ (one-square-fits .1)) refl
+
 module _ {dx dy px py : ℤ} (w : Way dx dy) (v : Way px py) where
   pub ways-back : (back dx ≡ dx) × (back dy ≡ dy) × (back px ≡ px) × (back py ≡ py)
-  ways-back = (toZ-ofZ (one-fits dx (w .across)), toZ-ofZ (one-fits dy (w .upward)), toZ-ofZ (one-fits px (v .across)), toZ-ofZ (one-fits py (v .upward)))
+  ways-back = (handed-on dx (w .across), handed-on dy (w .upward), handed-on px (v .across), handed-on py (v .upward))
+    where
+      handed-on : (z : ℤ) → natAbs z ≤ 32768 → back z ≡ z
+      handed-on z h = toZ-ofZ (one-fits z (omega arith))
 
   pub products-fit : SFits w64 (px *ℤ dx) × SFits w64 (py *ℤ dy) × SFits w64 (px *ℤ dy) × SFits w64 (py *ℤ dx)
   products-fit = (
@@ -167,7 +174,7 @@ module _ {dx dy px py : ℤ} (w : Way dx dy) (v : Way px py) where
   rest-size = (omega (arith, size-sub px dx, v .across, w .across), omega (arith, size-sub py dy, v .upward, w .upward))
 
   pub rest-fits : SFits w64 (px -ℤ dx) × SFits w64 (py -ℤ dy)
-  rest-fits = (size-fits (px -ℤ dx) (omega (arith, rest-size .0)), size-fits (py -ℤ dy) (omega (arith, rest-size .1)))
+  rest-fits = (one-fits (px -ℤ dx) (rest-size .0), one-fits (py -ℤ dy) (rest-size .1))
 
   pub rest-back : (back (back px -ℤ back dx) ≡ px -ℤ dx) × (back (back py -ℤ back dy) ≡ py -ℤ dy)
   rest-back =

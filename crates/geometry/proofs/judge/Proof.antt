@@ -6,7 +6,8 @@ use native.Mathlib.Nat.{eq-or-lt-of-le, mul-le-mul}
 use native.Mathlib.Omega.{arith}
 use Rattle.refusal.specs.Check.{Decides}
 use Rattle.geometry.specs.Near.{Along}
-use Rattle.geometry.proofs.Ways.{way-size, near-by, handed}
+use Rattle.geometry.proofs.Link.{near-by}
+use Rattle.geometry.proofs.Ways.{way-size, handed}
 use Rattle.geometry.proofs.judge.Statement.{statement}
 use Rattle.geometry.proofs.judge.Tie as tie
 

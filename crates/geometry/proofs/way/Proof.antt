@@ -3,7 +3,7 @@ use borrow.Author.Needs.{needs}
 use mathlib.Core.Path.{refl}
 use mir.Facts.{toZ-ofZ}
 use Rattle.geometry.proofs.Move.{narrow, wide}
-use Rattle.geometry.proofs.Ways.{one-fits, way-size}
+use Rattle.geometry.proofs.Ways.{way-fits}
 use Rattle.geometry.proofs.way.Statement.{statement}
 use Rattle.geometry.proofs.way.Tie as tie
 
@@ -32,12 +32,12 @@ cast-result-2 c =
 sub-result : tie.Need-sub-result
 sub-result c =
     let p = c .before .before .pre in
-    rw (toZ-ofZ (narrow (p .2)), toZ-ofZ (narrow (p .3)), toZ-ofZ (wide (p .2)), toZ-ofZ (wide (p .3))) (one-fits _ (way-size (p .2) (p .3)))
+    rw (toZ-ofZ (narrow (p .2)), toZ-ofZ (narrow (p .3)), toZ-ofZ (wide (p .2)), toZ-ofZ (wide (p .3))) (way-fits (p .2) (p .3))
 
 returns : tie.Need-returns
 returns c =
     let p = c .before .before .pre in
-    rw (toZ-ofZ (narrow (p .2)), toZ-ofZ (narrow (p .3)), toZ-ofZ (wide (p .2)), toZ-ofZ (wide (p .3)), toZ-ofZ (one-fits _ (way-size (p .2) (p .3)))) refl
+    rw (toZ-ofZ (narrow (p .2)), toZ-ofZ (narrow (p .3)), toZ-ofZ (wide (p .2)), toZ-ofZ (wide (p .3)), toZ-ofZ (way-fits (p .2) (p .3))) refl
 
 pub way-spec : {M : Type 1} → statement M
 way-spec =
