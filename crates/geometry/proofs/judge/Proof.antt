@@ -57,7 +57,6 @@ near-requires : tie.Need-near-requires Inv-loop μ-loop
 near-requires c κs =
     let a = c .before .before .before .before .before .before .before .args in
     let p = c .before .before .before .before .before .before .before .pre .0 in
-    let k = c .before .before .before .loop .k in
     let v = c .before .before .before .before .before .before .way in
     let w = c .before .before .before .before .before .way2 in
     rw (handed (v .result) (v .ok), handed (w .result) (w .ok), handed (c .before .way3 .result) (c .before .way3 .ok), handed (c .way4 .result) (c .way4 .ok)) (
@@ -66,8 +65,8 @@ near-requires c κs =
         upward = rw (w .ensures) (way-size (p .1 .each (a .i) (omega arith)) (p .1 .each (a .j) (omega arith)));
       },
       record {
-        across = rw (c .before .way3 .ensures) (way-size (p .0 .each (a .i) (omega arith)) (p .0 .each k (omega arith)));
-        upward = rw (c .way4 .ensures) (way-size (p .1 .each (a .i) (omega arith)) (p .1 .each k (omega arith)));
+        across = rw (c .before .way3 .ensures) (way-size (p .0 .each (a .i) (omega arith)) (p .0 .each _ (omega arith)));
+        upward = rw (c .way4 .ensures) (way-size (p .1 .each (a .i) (omega arith)) (p .1 .each _ (omega arith)));
       },
       rw (handed (v .result) (v .ok), handed (w .result) (w .ok)) at (c .before .before .before .before .squared .ensures),
       omega (arith, mul-le-mul (p .4) (p .4)),

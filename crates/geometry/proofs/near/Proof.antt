@@ -75,7 +75,7 @@ returns-2 c =
     let d = dotted (c .before .before .before) in
     let r = rest-back (p .0) (p .1) in
     rw (c .squared2 .ensures, r .0, r .1)
-    (past-way _ (p .0) (p .1) (rw d at (c .before .before .if1 .left)) (rw (p .2, d) at (c .before .if2 .taken)))
+    (past-way _ (p .0) (p .1) (rw d at (c .before .before .if1 .left)) (omega (arith, p .2, rw d at (c .before .if2 .taken))))
 
 mul-cross : tie.Need-mul-cross
 mul-cross c =
@@ -117,7 +117,7 @@ returns-3 c =
     let p = c .before .before .pre in
     let d = dotted (c .before .before) in
     rw (square-back (p .0) (p .1), toZ-ofZ (square-fits (p .0) (p .1)), p .2)
-    (abreast-way _ (p .0) (p .1) (rw d at (c .before .if1 .left)) (rw (p .2, d) at (c .if2 .left)))
+    (abreast-way _ (p .0) (p .1) (rw d at (c .before .if1 .left)) (omega (arith, p .2, rw d at (c .if2 .left))))
 
 pub near-spec : {M : Type 1} → statement M
 near-spec =
