@@ -255,15 +255,19 @@ struct Record {
     up: i16,
     pause: u32,
     rank: u8,
+    boot: u16,
+    edition: u8,
 }
 
 fn decode(bytes: &[u8]) -> Result<Record, Refusal> {
     let bytes: &[u8; RECORD] = bytes.try_into().map_err(|_| 10)?;
-    let [x0, x1, y0, y1, p0, p1, p2, p3, rank, spare @ ..] = *bytes;
+    let [x0, x1, y0, y1, p0, p1, p2, p3, rank, b0, b1, edition, spare @ ..] = *bytes;
     let (across, up) = (i16::from_le_bytes([x0, x1]), i16::from_le_bytes([y0, y1]));
     ensure(in_range(across) && in_range(up), 6)?;
-    ensure(usize::from(rank) <= MOST_LEVELS && spare == [0; 7], 11)?;
-    Ok(Record { across, up, pause: u32::from_le_bytes([p0, p1, p2, p3]), rank })
+    let boot = u16::from_le_bytes([b0, b1]);
+    let edition_ok = edition == 1 || edition == 0 && boot == 0;
+    ensure(usize::from(rank) <= MOST_LEVELS && edition_ok && spare == [0; 4], 11)?;
+    Ok(Record { across, up, pause: u32::from_le_bytes([p0, p1, p2, p3]), rank, boot, edition })
 }
 
 fn decode_file(bytes: &[u8]) -> Result<Vec<Record>, Refusal> {
@@ -271,10 +275,18 @@ fn decode_file(bytes: &[u8]) -> Result<Vec<Record>, Refusal> {
     bytes.chunks_exact(RECORD).map(decode).collect()
 }
 
-/// The sum of the increases; a lower counter is a restart and counts from zero.
+/// Between two of edition 1 a new boot counts from zero and the counter may roll over; else a lower counter is a restart.
+fn increase(earlier: &Record, later: &Record) -> u32 {
+    if earlier.edition == 1 && later.edition == 1 {
+        if earlier.boot == later.boot { later.pause.wrapping_sub(earlier.pause) } else { later.pause }
+    } else {
+        later.pause.checked_sub(earlier.pause).unwrap_or(later.pause)
+    }
+}
+
+/// The sum of the increases.
 fn pause_line(records: &[Record]) -> u64 {
-    let increase = |pair: &[Record]| pair[1].pause.checked_sub(pair[0].pause).unwrap_or(pair[1].pause);
-    records.windows(2).map(|pair| u64::from(increase(pair))).sum()
+    records.windows(2).map(|pair| u64::from(increase(&pair[0], &pair[1]))).sum()
 }
 
 fn day_text(bytes: &[u8]) -> Result<String, Refusal> {
@@ -456,8 +468,10 @@ impl Replay {
     fn decode(&mut self, bytes: &[u8]) {
         let text = &mut self.text;
         match decode(bytes) {
-            Ok(r) => put(text, format_args!("0 {} {} {} {}\n", r.across, r.up, r.pause, r.rank)),
-            Err(refusal) => put(text, format_args!("{refusal} 0 0 0 0\n")),
+            Ok(Record { across, up, pause, rank, boot, edition }) => {
+                put(text, format_args!("0 {across} {up} {pause} {rank} {boot} {edition}\n"))
+            }
+            Err(refusal) => put(text, format_args!("{refusal} 0 0 0 0 0 0\n")),
         }
     }
 }

@@ -3,7 +3,7 @@ a fixed choice of the random cases."""
 
 from itertools import combinations, product
 
-from cases_random import (ACROSS, CELL, FAULTS, NEVER_TOGETHER, RANK, UP, command, day, decode_case, foreign_case,
+from cases_random import (ACROSS, CELL, FAULTS, NEVER_TOGETHER, RANK, TOP, UP, command, day, decode_case, foreign_case,
                           forged_case, grow, own_case, record, refused_case, sample, wild_case)
 from plain import ADD, ASK, BUFS, CORRECT, DECODE, NOT_PERMITTED, POKE, READ, SETUP, START
 
@@ -178,12 +178,15 @@ def question_marks():
 
 
 def decodes(rng):
-    """Boundaries of a record, each spare byte, 6 before 11, and random ones."""
+    """Boundaries of a record, each spare byte, editions and boot numbers, 6 before 11, and random ones."""
     edges = 16384, 16385, -16384, -16385, 32767, -32768, -1
     bodies = [record(x, y, 1) for x, y in product(edges, (0, 16384, -16385))]
     bodies += [record(10, 1, pause, rank) for pause in (900, 2**31, 2**32 - 1) for rank in (0, 1, 16, 17, 255)]
-    bodies += [record(-2, -3, 4, 5, bytes(at) + value + bytes(6 - at)) for at in range(7) for value in (b"\1", b"\x80")]
-    bodies += [record(16385, 0, 0, 17), record(0, -16385, 0, 0, b"\1" * 7), bytes(16), b"\xff" * 16]
+    bodies += [record(10, 1, 900, 2, *told) for told in product((0, 1, 255, 256, 65535), (0, 1, 2, 128, 255))]
+    bodies += [record(-2, -3, 4, 5, edition, edition, bytes(at) + value + bytes(3 - at))
+               for edition in (0, 1) for at in range(4) for value in (b"\1", b"\x80")]
+    bodies += [record(16385, 0, rank=17), record(0, -16385, boot=1), record(0, -16385, edition=2)]
+    bodies += [record(-16385, 0, spare=b"\1" * 4), bytes(16), b"\xff" * 16]
     for body in bodies:
         yield bytes([DECODE, 0, 0, 0]) + body + b"\xff" * 60
     for _ in range(30):
@@ -214,24 +217,35 @@ def replay_script(rng):
     return b"".join(one for part in parts for one in part) + command(READ)[:79]
 
 
-def counters(*pauses):
-    return b"".join(record(p, -p, pause) for p, pause in enumerate(pauses))
+def counters(*told):
+    """A day of these pause counters: one in a pair with its boot number is of edition 1, one alone of edition 0."""
+    fields = [(one[1], 0, one[0], 1) if isinstance(one, tuple) else (one,) for one in told]
+    return b"".join(record(p, -p, *each) for p, each in enumerate(fields))
 
 
 def fixed_days(rng):
     """Days at every bound, with every refusal, and one of each size that dayline takes."""
-    top = 2**32 - 1
-    outside, stained, both = record(0, 16385), record(0, 0, 0, 17), record(-16385, 0, 0, 0, b"\1" * 7)
+    outside, both = record(0, 16385), record(-16385, 0, spare=b"\1" * 4)
+    stains = [record(0, 0, rank=17), record(0, 0, boot=1), record(0, 0, boot=256), record(0, 0, edition=2),
+              record(0, 0, boot=7, edition=255), record(0, 0, boot=7, edition=1, spare=b"\0\0\0\1")]
+    stained = stains[0]
     yield from (day(rng, count) for count in (0, 1, 103, 104, 105))
-    yield from (day(rng, 150) + bad + day(rng, 20) for bad in (outside, stained, both))
+    yield from (day(rng, 150) + bad + day(rng, 20) for bad in (outside, *stains, both))
     yield from (both, outside + stained, stained + outside, stained + both, day(rng, 1) + stained)
     yield from (day(rng, count, "noisy") for count in (4096, 4097))
     yield day(rng, 4095, "noisy") + stained
     yield day(rng, 4096, "noisy")[:-1]
     yield day(rng, 4096, "noisy") + b"\0"
     yield from (bytes(15), bytes(17), bytes(16), bytes(32), outside[:15], outside + b"\0")
-    yield from (counters(500, 900, 120, 200), counters(7, 7, 7), counters(9, 0), counters(top, 0, top, 0, top))
-    yield from (counters(0, top, top - 1, top), counters(top, top), counters(0, 1))
+    yield from (counters(500, 900, 120, 200), counters(7, 7, 7), counters(9, 0), counters(TOP, 0, TOP, 0, TOP))
+    yield from (counters(0, TOP, TOP - 1, TOP), counters(TOP, TOP), counters(0, 1))
+    # restarts that overtake or do not, roll-overs, boot numbers that differ in one byte, mixed editions
+    yield from (counters((1, 500), (2, 900)), counters((1, 900), (2, 120)), counters((1, 500), (1, 900), (2, 1000)))
+    yield from (counters((7, TOP - 9), (7, 4)), counters((0, 900), (0, 120)), counters((9, TOP), (9, 0), (9, TOP)))
+    yield from (counters((1, 5), (257, 9)), counters((256, 5), (257, 9)), counters((65535, 5), (0, 9), (65535, 9)))
+    nexts = 900, 120, (0, 900), (0, 120), (2, 900), (2, 120)
+    yield from (counters(*pair) for pair in product((500, (0, 500), (1, 500)), nexts))
+    yield counters((1, 500), 900, (2, 950), (2, 10), 20, 15, (2, TOP), (2, 3), (3, 4), 4)
     yield b"".join(record(3 * p, p % 3, p, p) for p in range(17))
     for count in range(2, 105):
         yield day(rng, count)

@@ -231,30 +231,47 @@ def wild_case(rng):
 # ---- Records and days ----------------------------------------------------------------------------------
 
 
-def record(across, up, pause=0, rank=0, spare=bytes(7)):
-    return struct.pack("<hhIB7s", across, up, pause, rank, spare)
+TOP = 2**32 - 1  # of a pause counter
+
+
+def record(across, up, pause=0, rank=0, boot=0, edition=0, spare=bytes(4)):
+    return struct.pack("<hhIBHB4s", across, up, pause, rank, boot, edition, spare)
 
 
 def bad_record(rng):
-    """A record with a coordinate out of range, a bad rank or spare byte, or both."""
+    """A record with a coordinate out of range, something that 11 is given for, or both."""
     outside = rng.choice([(16385, 0), (0, 16385), (-16385, 1), (1, -16385), (-32768, 32767)])
-    stained = rng.choice([(rng.choice([17, 255]), bytes(7)), (0, (1 << 8 * rng.randrange(7)).to_bytes(7, "little"))])
-    return rng.choice([record(*outside), record(1, 2, 3, *stained), record(*outside, 9, *stained)])
+    stained = rng.choice([{"rank": rng.choice([17, 255])},
+                          {"boot": rng.choice([1, 256, 65535])},
+                          {"boot": rng.choice([0, 7]), "edition": rng.choice([2, 3, 128, 255])},
+                          {"edition": rng.randint(0, 1), "spare": (1 << 8 * rng.randrange(4)).to_bytes(4, "little")}])
+    return rng.choice([record(*outside), record(1, 2, 3, **stained), record(*outside, 9, **stained)])
 
 
 def decode_case(rng):
     x, y = rng.choice([(16384, -16384), (-1, 1), sample(rng, "noisy", 0)])
-    good = record(x, y, rng.choice([0, 1, 2**31, 2**32 - 1, rng.getrandbits(32)]), rng.randint(0, 16))
+    edition = rng.randint(0, 1)
+    boot = edition * rng.choice([0, 1, 255, 256, 65535, rng.getrandbits(16)])
+    good = record(x, y, rng.choice([0, 1, 2**31, TOP, rng.getrandbits(32)]), rng.randint(0, 16), boot, edition)
     body = good if rng.random() < 0.5 else bad_record(rng)
     yield bytes([DECODE, 0, 0, 0]) + body + bytes(rng.randrange(256) for _ in range(60))
 
 
+def later(rng, pause, boot):
+    """A pause counter and a boot number after these: it stays, rises, rolls over, or restarts, lower or higher."""
+    more, new = rng.randrange(900), rng.choice([(boot + 1) % 2**16, rng.getrandbits(16)])
+    return rng.choice([(pause, boot), (min(pause + more, TOP), boot), (TOP, boot), (more, boot),
+                       ((pause + rng.getrandbits(32)) % 2**32, boot), (more, new), (min(pause + more, TOP), new)])
+
+
 def day(rng, count, kind=None):
-    """Good records of one kind, with pause counters that mostly rise, stay or restart."""
-    kind, pause, records = kind or rng.choice(KINDS), rng.choice([0, 500, 2**32 - 1]), []
+    """Good records of one kind, of one edition or of both, some of them after a restart."""
+    kind, editions, records = kind or rng.choice(KINDS), rng.choice([(0,), (1,), (0, 1)]), []
+    pause, boot = rng.choice([0, 500, TOP]), rng.choice([0, 1, 65535])
     for p in range(count):
-        records.append(record(*sample(rng, kind, p), pause, rng.choice([0, 0, rng.randint(1, 16)])))
-        pause = rng.choice([pause, min(pause + rng.randrange(900), 2**32 - 1), rng.randrange(500), 2**32 - 1])
+        rank, edition = rng.choice([0, 0, rng.randint(1, 16)]), rng.choice(editions)
+        records.append(record(*sample(rng, kind, p), pause, rank, boot * edition, edition))
+        pause, boot = later(rng, pause, boot)
     return b"".join(records)
 
 

@@ -5,7 +5,7 @@ from array import array
 from itertools import combinations, product
 
 import plain
-from cases_random import FAULTS, NEVER_TOGETHER, refused_case
+from cases_random import FAULTS, NEVER_TOGETHER, record, refused_case
 
 NEAR = [  # a, b, passed sample, tolerance, permitted
     ((0, 0), (10, 0), (13, 4), 5, True),
@@ -46,6 +46,20 @@ STARTS = [  # m, N, tolerances, refusal
     (1, 257, (1,), 1),
     (17, 8, (0,), 1),
 ]
+INCREASES = [  # counter, boot and edition of a record and of the next; what that adds
+    ((500, 0, 0), (900, 0, 0), 400),
+    ((900, 0, 0), (120, 0, 0), 120),
+    ((500, 1, 1), (900, 1, 1), 400),
+    ((900, 1, 1), (120, 2, 1), 120),
+    ((500, 1, 1), (900, 2, 1), 900),  # a restart that overtakes
+    ((4_294_967_290, 7, 1), (4, 7, 1), 10),  # a roll-over
+    ((900, 0, 1), (120, 0, 1), 4_294_966_516),
+    ((900, 0, 0), (120, 0, 1), 120),
+    ((900, 0, 1), (120, 0, 0), 120),
+    ((500, 0, 0), (900, 2, 1), 400),
+    ((500, 2, 1), (900, 0, 0), 400),
+]
+BOOTED = b"\x0a\x00\x01\x00\x84\x03\x00\x00\x02\x39\x30\x01" + bytes(4)
 DAY = (b"\x00\x00\x00\x00\xf4\x01\x00\x00" + bytes(8) + b"\x0a\x00\x01\x00\x84\x03\x00\x00" + bytes(8)
        + b"\x14\x00\x00\x00\x78\x00\x00\x00" + bytes(8) + b"\x1e\x00\x03\x00\xc8\x00\x00\x00" + bytes(8)
        + b"\x28\x00\x00\x00\xc8\x00\x00\x00" + bytes(8))
@@ -120,8 +134,13 @@ def check_lowest():
 
 
 def check_records():
-    assert plain.decode(DAY[16:32]) == (0, 10, 1, 900, 0)
+    assert plain.decode(DAY[16:32]) == (0, (10, 1, 900, 0, 0, 0))
+    assert plain.decode(BOOTED) == (0, (10, 1, 900, 2, 12_345, 1))
     assert plain.decode(DAY[:15])[0] == 10
+    assert [plain.decode(BOOTED[:11] + bytes([e]) + BOOTED[12:])[0] for e in (0, 1, 2, 255)] == [11, 0, 11, 11]
+    for earlier, later, expected in INCREASES:
+        told = b"".join(record(0, 0, pause, 0, boot, edition) for pause, boot, edition in (earlier, later))
+        assert plain.pause_line(told) == (0, expected), (earlier, later)
     assert plain.pause_line(DAY[:64]) == (0, 600)
     assert plain.dayline(DAY) == DAY_PRINTED
     assert plain.dayline(b"") == plain.dayline(DAY[:16]) == "refused 9\n"

@@ -302,12 +302,38 @@ def read(trace, lent):
 # ---- Records, the pause line and dayline ---------------------------------------------------------------
 
 
-def decode(record):
-    if len(record) != 16:
-        return 10, 0, 0, 0, 0
-    across, up, pause, rank, spare = struct.unpack("<hhIB7s", record)
-    refusal = lowest((6, lambda: bad_coordinates(across, up)), (11, lambda: rank > 16 or any(spare)))
-    return (refusal, 0, 0, 0, 0) if refusal else (0, across, up, pause, rank)
+class Record(NamedTuple):
+    across: int
+    up: int
+    pause: int
+    rank: int
+    boot: int
+    edition: int
+
+
+NO_RECORD = Record(0, 0, 0, 0, 0, 0)
+
+
+def bad_edition(record):
+    return record.edition > 1 or record.edition == 0 and record.boot > 0
+
+
+def decode(data):
+    """The number of refusal and what the record says."""
+    if len(data) != 16:
+        return 10, NO_RECORD
+    *fields, spare = struct.unpack("<hhIBHB4s", data)
+    record = Record(*fields)
+    refusal = lowest((6, lambda: bad_coordinates(record.across, record.up)),
+                     (11, lambda: record.rank > 16 or bad_edition(record) or any(spare)))
+    return (refusal, NO_RECORD) if refusal else (0, record)
+
+
+def increase(earlier, later):
+    """What the later record adds to the pause line."""
+    if earlier.edition == later.edition == 1:
+        return (later.pause - earlier.pause) % 4_294_967_296 if later.boot == earlier.boot else later.pause
+    return later.pause - earlier.pause if later.pause >= earlier.pause else later.pause
 
 
 def split_records(data):
@@ -317,13 +343,13 @@ def split_records(data):
 def pause_line(data):
     if len(data) % 16 or len(data) // 16 > 4_096:
         return 10, 0
-    counters = []
-    for record in split_records(data):
-        refusal, _, _, pause, _ = decode(record)
+    records = []
+    for one in split_records(data):
+        refusal, record = decode(one)
         if refusal:
             return refusal, 0
-        counters.append(pause)
-    return 0, sum(later - earlier if later >= earlier else later for earlier, later in pairwise(counters))
+        records.append(record)
+    return 0, sum(increase(*pair) for pair in pairwise(records))
 
 
 def dayline(data):
@@ -333,9 +359,9 @@ def dayline(data):
         return f"refused {refusal}\n"
     _, trace = start(3, 104, (1, 4, 16) + (0,) * 13)
     lent = Lent(array("h", [0] * 104), array("h", [0] * 104), array("H", [0] * 32_768), array("B", [0] * 104))
-    for record in split_records(data):
-        _, across, up, _, _ = decode(record)
-        refusal, _, trace = add(trace, lent, across, up)
+    for one in split_records(data):
+        _, record = decode(one)
+        refusal, _, trace = add(trace, lent, record.across, record.up)
         if refusal:
             return f"refused {refusal}\n"
     refusal, total, counts = read(trace, lent)
@@ -401,7 +427,8 @@ class Replay:
         if len(command) < 80 or any(command[1:4]) or operation not in ARGUMENTS:
             return "?"
         if operation == DECODE:
-            return " ".join(map(str, decode(command[4:20])))
+            refusal, record = decode(command[4:20])
+            return " ".join(map(str, (refusal, *record)))
         ranges = ARGUMENTS[operation]
         numbers = struct.unpack("<19i", command[4:])[:len(ranges)]
         if any(not low <= number <= high for number, (low, high) in zip(numbers, ranges)):

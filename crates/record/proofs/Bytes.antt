@@ -11,7 +11,7 @@ use borrow.Author.Tests.{lt-ltb, eq-eqb}
 use Rattle.refusal.specs.declared.Outcome.{Outcome}
 use Rattle.refusal.specs.declared.Outcome.the-variants.{Done, Refused}
 use Rattle.refusal.proofs.Laws.{all-same}
-use Rattle.record.specs.Record.{word, signed, signedAt, counter, spareOk, recordOutcome, decodeOutcome, decodedBy, decodeOf}
+use Rattle.record.specs.Record.{word, signed, signedAt, counter, editionOk, spareOk, fieldsOk, recordOutcome, decodeOutcome, decodedBy, decodeOf}
 use Rattle.record.specs.Pause.{recordBytes, pauseLineOf}
 use Rattle.record.proofs.Record.{decode-outcome}
 use Rattle.record.proofs.Pause.{file-good}
@@ -44,14 +44,22 @@ module _ (s : List ℕ) (i : ℕ) (h : i < length s / 16) where
 
   spares : spareOk (recordBytes s i) 0 ≡ spareOk s (16 * i)
   unfolding spareOk
-  spares = all-same 7 _ _ (λ k l. ap (λ (x : ℕ). eqb x 0) (byte (9 + k) (omega arith) ∙ ap (λ (x : ℕ). getD s x 0) (sym (add-assoc (16 * i) 9 k))))
+  spares = all-same 4 _ _ (λ k l. ap (λ (x : ℕ). eqb x 0) (byte (12 + k) (omega arith) ∙ ap (λ (x : ℕ). getD s x 0) (sym (add-assoc (16 * i) 12 k))))
+
+  editions : editionOk (recordBytes s i) 0 ≡ editionOk s (16 * i)
+  unfolding editionOk
+  editions = rw (byte 11 (omega arith), words 9 (omega arith))
+
+  rest : fieldsOk (recordBytes s i) 0 ≡ fieldsOk s (16 * i)
+  unfolding fieldsOk
+  rest = rw (byte 8 (omega arith), editions, spares)
 
   outcomes : decodeOutcome (recordBytes s i) ≡ recordOutcome s (16 * i)
   unfolding decodeOutcome recordOutcome
-  outcomes = simp (eq-eqb _ _ bytes-length, acrosses, fields 2 (omega arith), byte 8 (omega arith), spares)
+  outcomes = simp (eq-eqb _ _ bytes-length, acrosses, fields 2 (omega arith), rest)
 
   said : (o : Outcome) → decodedBy o (recordBytes s i) 0 ≡ decodedBy o s (16 * i)
-  said Done = rw (acrosses, fields 2 (omega arith), counters, byte 8 (omega arith))
+  said Done = rw (acrosses, fields 2 (omega arith), counters, byte 8 (omega arith), words 9 (omega arith), byte 11 (omega arith))
   said (Refused r) = refl
 
   pub decode-alone : decodeOf (recordBytes s i) ≡ decodedBy (recordOutcome s (16 * i)) s (16 * i)

@@ -28,7 +28,7 @@ pub record DecodeRows (s : List ℕ) (k : ℕ) : Type 0 where
   pub row-10 : k ≡ 10 ↔ (length s ≡ 16 → ⊥)
   -- a coordinate out of range
   pub row-6 : k ≡ 6 ↔ (length s ≡ 16) × (Placed s 0 → ⊥)
-  -- a rank byte above 16 or a spare byte not zero
+  -- a rank above 16, an edition above 1, edition 0 with a boot number above 0, or a spare byte not zero
   pub row-11 : k ≡ 11 ↔ (length s ≡ 16) × (Placed s 0 × Marred s 0)
   -- every check passes
   pub row-0 : k ≡ 0 ↔ (length s ≡ 16) × (Placed s 0 × (Marred s 0 → ⊥))

@@ -6,12 +6,12 @@ use lib.IntN.{pos}
 use Rattle.refusal.specs.declared.Outcome.the-variants.{Done}
 use Rattle.refusal.specs.Check.{allBelow}
 use Rattle.geometry.specs.Coordinate.{coordinateOk}
-use Rattle.record.specs.Record.{word, signed, signedAt, counter, spareOk, recordOutcome, decodeOutcome, decodeOf}
+use Rattle.record.specs.Record.{word, signed, signedAt, counter, editionOk, spareOk, fieldsOk, recordOutcome, decodeOutcome, decodeOf}
 
 -- 0A 00 01 00 84 03 00 00, then eight zeros
 abbrev pub ten-one : List ℕ
 ten-one = 0x0a ∷ 0 ∷ 1 ∷ 0 ∷ 0x84 ∷ 3 ∷ 0 ∷ 0 ∷ 0 ∷ 0 ∷ 0 ∷ 0 ∷ 0 ∷ 0 ∷ 0 ∷ 0 ∷ []
 
-pub record-example : decodeOf ten-one ≡ record { outcome = Done; across = pos 10; up = pos 1; pause = 900; rank = 0 }
-unfolding decodeOf decodeOutcome recordOutcome counter spareOk word signed signedAt coordinateOk allBelow
+pub record-example : decodeOf ten-one ≡ record { outcome = Done; across = pos 10; up = pos 1; pause = 900; rank = 0; boot = 0; edition = 0 }
+unfolding decodeOf decodeOutcome recordOutcome counter editionOk spareOk fieldsOk word signed signedAt coordinateOk allBelow
 record-example = refl

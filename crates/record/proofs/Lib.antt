@@ -1,5 +1,6 @@
 pub mod Signed
 pub mod Record
+pub mod Increase
 pub mod Pause
 pub mod Plain
 pub mod Bytes

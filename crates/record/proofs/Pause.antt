@@ -8,14 +8,14 @@ use native.Mathlib.Numerals.{add-one}
 use native.Mathlib.Omega.{arith}
 use lib.ListN.{length}
 use lib.Dec.{leb, eqb}
-use borrow.Author.Tests.{leb-true, le-leb, lt-leb}
+use borrow.Author.Tests.{leb-true}
 use Rattle.refusal.specs.declared.Refusal.{Refusal}
 use Rattle.refusal.specs.declared.Refusal.the-variants.{Length}
 use Rattle.refusal.specs.declared.Outcome.{Outcome}
 use Rattle.refusal.specs.declared.Outcome.the-variants.{Done, Refused}
 use Rattle.refusal.specs.Check.{andThen}
 use Rattle.refusal.proofs.Laws.{and-right, need-done, then-done}
-use Rattle.record.specs.Record.{counter, recordOutcome}
+use Rattle.record.specs.Record.{recordOutcome}
 use Rattle.record.specs.Pause.{fileLengthOk, recordsOutcome, fileOutcome, increase, increaseAt, pauseSum, lineBy, pauseLineOf}
 
 -- one record more
@@ -32,18 +32,10 @@ records-refused s i (suc n) r h e l =
     (λ lt. ap (λ (p : Outcome). andThen p (recordOutcome s (16 * n))) (records-refused s i n r h e lt))
     (eq-or-lt-of-le (le-of-suc-le-suc l))
 
-pub increase-on : (earlier later : ℕ) → earlier ≤ later → increase earlier later ≡ later - earlier
-unfolding increase
-increase-on earlier later h = simp (le-leb earlier later h)
-
-pub increase-restart : (earlier later : ℕ) → later < earlier → increase earlier later ≡ later
-unfolding increase
-increase-restart earlier later h = simp (lt-leb earlier later h)
-
-pub increase-after : (s : List ℕ) (n : ℕ) → (n ≡ 0 → ⊥) → increaseAt s n ≡ increase (counter s (16 * (n - 1))) (counter s (16 * n))
+pub increase-after : (s : List ℕ) (n : ℕ) → (n ≡ 0 → ⊥) → increaseAt s n ≡ increase s (16 * (n - 1)) (16 * n)
 unfolding increaseAt
 increase-after s zero h = absurd (h refl)
-increase-after s (suc n) h = let e : n ≡ suc n - 1 = omega arith in ap (λ (k : ℕ). increase (counter s (16 * k)) (counter s (16 * suc n))) e
+increase-after s (suc n) h = let e : n ≡ suc n - 1 = omega arith in ap (λ (k : ℕ). increase s (16 * k) (16 * suc n)) e
 
 pub sum-more : (s : List ℕ) (n : ℕ) → pauseSum s (n + 1) ≡ pauseSum s n + increaseAt s n
 unfolding pauseSum

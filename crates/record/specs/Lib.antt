@@ -1,3 +1,4 @@
 pub mod Record
 pub mod Pause
+pub mod Restart
 pub mod Plain

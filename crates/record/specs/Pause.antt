@@ -9,7 +9,7 @@ use Rattle.refusal.specs.declared.Outcome.{Outcome}
 use Rattle.refusal.specs.declared.Outcome.the-variants.{Done, Refused}
 use Rattle.refusal.specs.Check.{need, andThen}
 use Rattle.record.specs.declared.PauseLine.{PauseLine}
-use Rattle.record.specs.Record.{counter, recordOutcome}
+use Rattle.record.specs.Record.{counter, boot, edition, recordOutcome}
 
 -- record i of a file: its 16 bytes, and none where there is no such record
 unfoldable pub recordBytes : List ℕ → ℕ → List ℕ
@@ -28,14 +28,30 @@ recordsOutcome s (suc n) = andThen (recordsOutcome s n) (recordOutcome s (16 * n
 unfoldable pub fileOutcome : List ℕ → Outcome
 fileOutcome s = need (fileLengthOk (length s)) (Refused Length) (recordsOutcome s (length s / 16))
 
--- later minus earlier when the later counter is not lower; a lower one means a restart, and then it is the later counter itself
-unfoldable pub increase : ℕ → ℕ → ℕ
-increase earlier later = cond (leb earlier later) (later - earlier) later
+-- the old rule: later minus earlier when the later counter is not lower; a lower one means a restart, and then it is the later counter itself
+unfoldable pub oldIncrease : ℕ → ℕ → ℕ
+oldIncrease earlier later = cond (leb earlier later) (later - earlier) later
+
+-- the difference of two counters, taken modulo 4,294,967,296
+unfoldable pub difference : ℕ → ℕ → ℕ
+difference earlier later = ((later + 4294967296) - earlier) % 4294967296
+
+-- the records at places p and q are both of edition 1
+unfoldable pub bothWithBoot : List ℕ → ℕ → ℕ → Bool
+bothWithBoot s p q = eqb (edition s p) 1 && eqb (edition s q) 1
+
+-- what the record at place q adds after the one at place p: between two of edition 1 the difference where their boot is equal and else the later counter;
+-- where either is of edition 0, by the old rule
+unfoldable pub increase : List ℕ → ℕ → ℕ → ℕ
+increase s p q =
+    cond (bothWithBoot s p q)
+    (cond (eqb (boot s p) (boot s q)) (difference (counter s p) (counter s q)) (counter s q))
+    (oldIncrease (counter s p) (counter s q))
 
 -- what record n adds: nothing where it is the first
 unfoldable pub increaseAt : List ℕ → ℕ → ℕ
 increaseAt s zero = 0
-increaseAt s (suc n) = increase (counter s (16 * n)) (counter s (16 * suc n))
+increaseAt s (suc n) = increase s (16 * n) (16 * suc n)
 
 -- what the first n records add
 unfoldable pub pauseSum : List ℕ → ℕ → ℕ

@@ -1,25 +1,29 @@
--- When a record and a file are refused, in plain words: each statement says which number k is given. Assumes nothing.
+-- When a record and a file are refused, and what a record adds to the pause line, in plain words. A statement of refusal says which number k is given. Assumes nothing.
 use mathlib.Core.Path.{_≡_}
 use mathlib.Core.Logic.{_⊎_}
 use mathlib.Core.List.{List}
-use Prim.Native.Nat.{ℕ, _+_, _*_, _/_, _%_, _<_}
+use Prim.Native.Nat.{ℕ, _+_, _*_, _/_, _%_, _≤_, _<_}
 use lib.ListN.{length, getD}
 use Rattle.refusal.specs.Check.{First}
 use Rattle.geometry.specs.Coordinate.{Coord}
-use Rattle.record.specs.Record.{across, up, rank}
+use Rattle.record.specs.Record.{across, up, counter, rank, boot, edition}
 
 -- a spare byte of the record at place p is not zero
 pub record SpareSet (s : List ℕ) (p : ℕ) : Type 0 where
   pub at : ℕ
-  pub spare : at < 7
-  pub set : getD s (p + 9 + at) 0 ≡ 0 → ⊥
+  pub spare : at < 4
+  pub set : getD s (p + 12 + at) 0 ≡ 0 → ⊥
 
--- both its coordinates are in range; its rank is above 16 or a spare byte is not zero
+-- its edition is above 1, or 0 with a boot number above 0
+abbrev pub EditionWrong : List ℕ → ℕ → Type 0
+EditionWrong s p = (1 < edition s p) ⊎ ((edition s p ≡ 0) × (0 < boot s p))
+
+-- both its coordinates are in range; its rank is above 16, its edition is wrong or a spare byte is not zero
 abbrev pub Placed : List ℕ → ℕ → Type 0
 Placed s p = Coord (across s p) × Coord (up s p)
 
 abbrev pub Marred : List ℕ → ℕ → Type 0
-Marred s p = (16 < rank s p) ⊎ SpareSet s p
+Marred s p = (16 < rank s p) ⊎ (EditionWrong s p ⊎ SpareSet s p)
 
 -- the number that it is given, 0 for none
 abbrev pub RecordGiven : List ℕ → ℕ → ℕ → Type 0
@@ -48,3 +52,14 @@ Misfit s = (length s % 16 ≡ 0 → ⊥) ⊎ (4096 < length s / 16)
 -- it is given 10 there, and else as its records say
 abbrev pub FileGiven : List ℕ → ℕ → Type 0
 FileGiven s = First 10 (Misfit s) (RecordsGiven s (length s / 16))
+
+-- d is what the record at place q adds after the one at place p
+pub record Adds (s : List ℕ) (p q d : ℕ) : Type 0 where
+  -- between two of edition 1 of equal boot: the number below 4,294,967,296 that, added to the earlier counter, gives the later one modulo 4,294,967,296
+  pub same-boot : edition s p ≡ 1 → edition s q ≡ 1 → boot s p ≡ boot s q → (d < 4294967296) × ((counter s p + d) % 4294967296 ≡ counter s q)
+  -- of unequal boot: the later counter
+  pub new-boot : edition s p ≡ 1 → edition s q ≡ 1 → (boot s p ≡ boot s q → ⊥) → d ≡ counter s q
+  -- where either is of edition 0, a later counter that is not lower: later minus earlier
+  pub not-lower : (edition s p ≡ 0) ⊎ (edition s q ≡ 0) → counter s p ≤ counter s q → counter s p + d ≡ counter s q
+  -- and a lower one: the later counter itself
+  pub lower : (edition s p ≡ 0) ⊎ (edition s q ≡ 0) → counter s q < counter s p → d ≡ counter s q

@@ -3,8 +3,9 @@ ghost use mathlib.Core.Path.{_≡_};
 ghost use Prim.Native.Nat.{_+_, _*_, _≤_, _<_};
 ghost use lib.ListN.{length};
 ghost use Rattle.geometry.specs.Coordinate.{coordinateOk};
-ghost use Rattle.record.specs.Record.{signed, signedAt, word, counter, spareOk, recordOutcome, decodeOutcome, decodeOf};
+ghost use Rattle.record.specs.Record.{signed, signedAt, word, counter, editionOk, spareOk, fieldsOk, recordOutcome, decodeOutcome, decodeOf};
 ghost use Rattle.record.specs.Pause.{fileLengthOk, recordBytes, recordsOutcome, fileOutcome, increase, increaseAt, pauseSum, pauseLineOf};
+ghost use Rattle.record.specs.Restart.{restarted as restartedAt};
 use geometry::coordinate_ok;
 use refusal::Outcome;
 use refusal::Refusal;
@@ -17,6 +18,9 @@ pub const RECORDS_MOST: usize = 4096;
 // The highest rank.
 pub const RANK_MOST: u8 = 16;
 
+// The edition with a boot number; the one without is 0.
+const WITH_BOOT: u8 = 1;
+
 // Where the fields after `across` stand in a record.
 const UP: usize = 2;
 
@@ -26,9 +30,13 @@ const PAUSE_HIGH: usize = 6;
 
 const RANK: usize = 8;
 
-const SPARE: usize = 9;
+const BOOT: usize = 9;
 
-const SPARE_BYTES: usize = 7;
+const EDITION: usize = 11;
+
+const SPARE: usize = 12;
+
+const SPARE_BYTES: usize = 4;
 
 // What one house record says; on refusal every field is zero.
 pub struct Decoded {
@@ -37,6 +45,8 @@ pub struct Decoded {
     pub up: i16,
     pub pause: u32,
     pub rank: u8,
+    pub boot: u16,
+    pub edition: u8,
 }
 
 // The pause line in milliseconds; on refusal the sum is zero.
@@ -92,6 +102,18 @@ fn counter_at(s: &[u8], p: usize) -> u32
     low as u32 + 65536 * (high as u32)
 }
 
+// Whether the edition of the record at place p is 0, without a boot number, or 1.
+fn edition_ok(s: &[u8], p: usize) -> bool
+    requires { ⌜ p + 16 ≤ length (now s) ⌝ }
+    ensures { λ r. ⌜ r ≡ editionOk (now (s .entry)) p ⌝ }
+{
+    let edition = s[p + EDITION];
+    if edition == 0 {
+        return word_at(s, p + BOOT) == 0;
+    }
+    edition == WITH_BOOT
+}
+
 // Whether the spare bytes of the record at place p are zero.
 fn spare_ok(s: &[u8], p: usize) -> bool
     requires { ⌜ p + 16 ≤ length (now s) ⌝ }
@@ -107,6 +129,20 @@ fn spare_ok(s: &[u8], p: usize) -> bool
     true
 }
 
+// Whether the record at place p is in order, its coordinates apart.
+fn fields_ok(s: &[u8], p: usize) -> bool
+    requires { ⌜ p + 16 ≤ length (now s) ⌝ }
+    ensures { λ r. ⌜ r ≡ fieldsOk (now (s .entry)) p ⌝ }
+{
+    if RANK_MOST < s[p + RANK] {
+        return false;
+    }
+    if !edition_ok(s, p) {
+        return false;
+    }
+    spare_ok(s, p)
+}
+
 // The record at place p: 6, then 11.
 fn record_outcome(s: &[u8], p: usize) -> Outcome
     requires { ⌜ p + 16 ≤ length (now s) ⌝ }
@@ -118,10 +154,7 @@ fn record_outcome(s: &[u8], p: usize) -> Outcome
     if !in_range_at(s, p + UP) {
         return Outcome::Refused(Refusal::Coordinate);
     }
-    if RANK_MOST < s[p + RANK] {
-        return Outcome::Refused(Refusal::Record);
-    }
-    if !spare_ok(s, p) {
+    if !fields_ok(s, p) {
         return Outcome::Refused(Refusal::Record);
     }
     Outcome::Done
@@ -149,12 +182,16 @@ pub fn decode(record: &[u8]) -> Decoded
             let up = signed_at(record, UP);
             let pause = counter_at(record, 0);
             let rank = record[RANK];
+            let boot = word_at(record, BOOT);
+            let edition = record[EDITION];
             Decoded {
                 outcome: Outcome::Done,
                 across,
                 up,
                 pause,
                 rank,
+                boot,
+                edition,
             }
         }
         Outcome::Refused(r) => Decoded {
@@ -163,6 +200,8 @@ pub fn decode(record: &[u8]) -> Decoded
             up: 0,
             pause: 0,
             rank: 0,
+            boot: 0,
+            edition: 0,
         },
     }
 }
@@ -218,14 +257,28 @@ fn file_outcome(s: &[u8]) -> Outcome
     records_outcome(s, s.len() / RECORD_BYTES)
 }
 
-// What a counter adds after an earlier one: a lower one means a restart.
-fn increase_of(earlier: u32, later: u32) -> u32
-    ensures { λ r. ⌜ r ≡ increase earlier later ⌝ }
+// Whether a restart lies between the records at places p and q.
+fn restarted(s: &[u8], p: usize, q: usize) -> bool
+    requires { ⌜ (p + 16 ≤ length (now s)) × (q + 16 ≤ length (now s)) ⌝ }
+    ensures { λ r. ⌜ r ≡ restartedAt (now (s .entry)) p q ⌝ }
 {
-    if later < earlier {
+    if s[p + EDITION] == WITH_BOOT && s[q + EDITION] == WITH_BOOT {
+        return word_at(s, p + BOOT) != word_at(s, q + BOOT);
+    }
+    counter_at(s, q) < counter_at(s, p)
+}
+
+// What the record at place q adds after the one at place p: after a restart its counter, else the difference of two
+// counters of one boot. It wraps only between two of edition 1, since by the old rule a lower counter is a restart.
+fn increase_of(s: &[u8], p: usize, q: usize) -> u32
+    requires { ⌜ (p + 16 ≤ length (now s)) × (q + 16 ≤ length (now s)) ⌝ }
+    ensures { λ r. ⌜ r ≡ increase (now (s .entry)) p q ⌝ }
+{
+    let later = counter_at(s, q);
+    if restarted(s, p, q) {
         return later;
     }
-    later - earlier
+    std::num::wrapping_sub_u32(later, counter_at(s, p))
 }
 
 // What record n adds to the line.
@@ -236,9 +289,7 @@ fn increase_at(s: &[u8], n: usize) -> u32
     if n == 0 {
         return 0;
     }
-    let earlier = counter_at(s, RECORD_BYTES * (n - 1));
-    let later = counter_at(s, RECORD_BYTES * n);
-    increase_of(earlier, later)
+    increase_of(s, RECORD_BYTES * (n - 1), RECORD_BYTES * n)
 }
 
 // What the first n records add.

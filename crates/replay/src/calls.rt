@@ -5,6 +5,7 @@ use crate::command;
 use crate::digest;
 use crate::line;
 use crate::poke;
+use record::Decoded;
 use refusal::Outcome;
 use trace::Asked;
 use trace::Changed;
@@ -136,7 +137,18 @@ fn read(
     line::end(text, at)
 }
 
-// decode: f across up pause rank, of the 16 bytes after the first four.
+// The fields of a record after its coordinates.
+fn fields(text: &mut [u8], at: usize, d: Decoded) -> usize
+    requires { ⌜ at ≤ length (now text) ⌝ }
+    ensures { λ r. ⌜ r ≤ length (now (text .exit)) ⌝ }
+{
+    let at = line::next(text, at, d.pause as u64);
+    let at = line::next(text, at, d.rank as u64);
+    let at = line::next(text, at, d.boot as u64);
+    line::next(text, at, d.edition as u64)
+}
+
+// decode: f across up pause rank boot edition, of the 16 bytes after the first four.
 fn decode(command: &[u8], text: &mut [u8]) -> usize
     requires { ⌜ 20 ≤ length (now command) ⌝ }
     ensures { λ r. ⌜ r ≤ length (now (text .exit)) ⌝ }
@@ -146,8 +158,7 @@ fn decode(command: &[u8], text: &mut [u8]) -> usize
     let at = line::first(text, o);
     let at = line::next_signed(text, at, d.across);
     let at = line::next_signed(text, at, d.up);
-    let at = line::next(text, at, d.pause as u64);
-    let at = line::next(text, at, d.rank as u64);
+    let at = fields(text, at, d);
     line::end(text, at)
 }
 

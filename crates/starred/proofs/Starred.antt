@@ -7,8 +7,8 @@ use Rattle.geometry.specs.Shifted.{apart}
 use Rattle.geometry.specs.Test.{cross-sq, reaches, lowest, judged, permits}
 use Rattle.family.specs.Family.{cells, value, below, least, least-by, via, hop, next, along, rank, total, segments}
 use Rattle.costs.specs.Walk.{perm}
-use Rattle.record.specs.Record.{word, signed, signedAt, counter, spareOk, recordOutcome}
-use Rattle.record.specs.Pause.{fileLengthOk, recordsOutcome, fileOutcome, increase, increaseAt, pauseSum, pauseLineOf}
+use Rattle.record.specs.Record.{word, signed, signedAt, counter, editionOk, spareOk, fieldsOk, recordOutcome}
+use Rattle.record.specs.Pause.{fileLengthOk, recordsOutcome, fileOutcome, oldIncrease, difference, bothWithBoot, increase, increaseAt, pauseSum, pauseLineOf}
 use Rattle.starred.specs.Cases.{All, starred}
 use Rattle.starred.proofs.Worked.{AllWorked, all-hold}
 
@@ -18,7 +18,8 @@ a and b = (a, b)
 
 worked : AllWorked starred
 unfolding coordinatesOk coordinateOk perm permits judged lowest allBelow reaches apart gap cross-sq cells value below least least-by via hop next along rank total segments
-    pauseLineOf fileOutcome fileLengthOk recordsOutcome recordOutcome counter spareOk word signed signedAt increase increaseAt pauseSum
+    pauseLineOf fileOutcome fileLengthOk recordsOutcome recordOutcome counter editionOk spareOk fieldsOk word signed signedAt
+    oldIncrease difference bothWithBoot increase increaseAt pauseSum
 worked =
     -- stretches
     (refl, refl) and (refl, refl) and (refl, refl) and (refl, refl) and (refl, refl) and (refl, refl) and (refl, refl) and (refl, refl) and (refl, refl)

@@ -31,17 +31,27 @@ counter-at-requires c κs = omega (arith, whole (c .before .before))
 shared-slice-read-rank : tie.Need-shared-slice-read-rank
 shared-slice-read-rank c = omega (arith, whole (c .before .before .before .before))
 
+word-at-requires : tie.Need-word-at-requires
+word-at-requires c κs = omega (arith, whole (c .before .before .before .before))
+
+shared-slice-read-edition : tie.Need-shared-slice-read-edition
+shared-slice-read-edition c = omega (arith, whole (c .before .before .before .before .before .before))
+
 enum-known-o : tie.Need-enum-known-o
 enum-known-o c = search needs
 
 returns : tie.Need-returns
 unfolding decodeOf
 returns c =
-    let e = c .before .before .before .before in
+    let d = c .before .before .before in
+    let e = d .before .before .before in
     let s = e .before .before .before .before .args .«record» .now in
-    let x = back (c .before .before .before .signed-at .ensures) (c .before .before .before .signed-at .ok) in
-    let y = back (c .before .before .signed-at2 .ensures) (c .before .before .signed-at2 .ok) in
-    (rw (x, y, c .before .counter-at .ensures) (sym (ap (λ (o : Outcome). decodedBy o s 0) (sym (e .before .before .decode-outcome .ensures) ∙ e .enum-told .given .1))), refl)
+    let x = back (d .before .before .signed-at .ensures) (d .before .before .signed-at .ok) in
+    let y = back (d .before .signed-at2 .ensures) (d .before .signed-at2 .ok) in (
+      rw (x, y, d .counter-at .ensures, c .before .word-at .ensures)
+          (sym (ap (λ (o : Outcome). decodedBy o s 0) (sym (e .before .before .decode-outcome .ensures) ∙ e .enum-told .given .1))),
+      refl,
+    )
 
 returns-2 : tie.Need-returns-2
 unfolding decodeOf
@@ -60,6 +70,8 @@ decode-spec =
     signed-at-requires-2
     counter-at-requires
     shared-slice-read-rank
+    word-at-requires
+    shared-slice-read-edition
     enum-known-o
     returns
     returns-2)

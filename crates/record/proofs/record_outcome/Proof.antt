@@ -1,11 +1,9 @@
 -- `record::record_outcome` meets its contract: each answer rewrites with the tests that led to it. Assumes nothing.
 use mathlib.Core.Path.{_≡_, sym, _∙_}
-use borrow.Author.Tests.{not-true, not-false, lt-leb, le-leb}
-use mathlib.Core.Bool.{true, false}
-use lib.Dec.{leb}
-use native.Mathlib.Omega.{arith}
+use mathlib.Core.Bool.{true}
+use borrow.Author.Tests.{not-true, not-false}
 use Rattle.geometry.specs.Coordinate.{coordinateOk}
-use Rattle.record.specs.Record.{across, up, rank, recordOutcome}
+use Rattle.record.specs.Record.{across, up, recordOutcome}
 use borrow.Author.Needs.{needs}
 use Rattle.record.proofs.record_outcome.Statement.{statement}
 use Rattle.record.proofs.record_outcome.Tie as tie
@@ -16,13 +14,6 @@ across-ok c = sym (c .before .in-range-at .ensures) ∙ not-false _ (c .if1 .lef
 
 up-ok : (c : tie.Else2) → let a = c .before .before .before .before .before .args in coordinateOk (up (a .s .now) (a .p)) ≡ true
 up-ok c = sym (c .before .in-range-at2 .ensures) ∙ not-false _ (c .if2 .left)
-
--- and that of the rank
-rank-ok : (c : tie.Else3) → let a = c .before .before .before .before .before .before .before .args in leb (rank (a .s .now) (a .p)) 16 ≡ true
-rank-ok c = let a = c .before .before .before .before .before .before .before .args in le-leb (rank (a .s .now) (a .p)) 16 (omega arith)
-
-high-rank : (c : tie.Then3) → let a = c .before .before .before .before .before .before .before .args in leb (rank (a .s .now) (a .p)) 16 ≡ false
-high-rank c = let a = c .before .before .before .before .before .before .before .args in lt-leb (rank (a .s .now) (a .p)) 16 (omega arith)
 
 in-range-at-requires : tie.Need-in-range-at-requires
 in-range-at-requires c κs = search needs
@@ -39,38 +30,22 @@ in-range-at-requires-2 c κs = search needs
 
 returns-2 : tie.Need-returns-2
 unfolding recordOutcome
-returns-2 c =
-    let b = c .before .before in
-    simp (across-ok b, sym (c .before .in-range-at2 .ensures) ∙ not-true _ (c .if2 .taken))
+returns-2 c = simp (across-ok (c .before .before), sym (c .before .in-range-at2 .ensures) ∙ not-true _ (c .if2 .taken))
 
-add-if3 : tie.Need-add-if3
-add-if3 c = search needs
-
-shared-slice-read-if3 : tie.Need-shared-slice-read-if3
-shared-slice-read-if3 c = search needs
+fields-ok-requires : tie.Need-fields-ok-requires
+fields-ok-requires c κs = search needs
 
 returns-3 : tie.Need-returns-3
 unfolding recordOutcome
 returns-3 c =
     let b = c .before .before in
-    simp (across-ok (b .before .before), up-ok b, high-rank c)
-
-spare-ok-requires : tie.Need-spare-ok-requires
-spare-ok-requires c κs = search needs
+    simp (across-ok (b .before .before), up-ok b, sym (c .before .fields-ok .ensures) ∙ not-true _ (c .if3 .taken))
 
 returns-4 : tie.Need-returns-4
 unfolding recordOutcome
 returns-4 c =
-    let d = c .before .before in
-    let b = d .before .before in
-    simp (across-ok (b .before .before), up-ok b, rank-ok d, sym (c .before .spare-ok .ensures) ∙ not-true _ (c .if4 .taken))
-
-returns-5 : tie.Need-returns-5
-unfolding recordOutcome
-returns-5 c =
-    let d = c .before .before in
-    let b = d .before .before in
-    simp (across-ok (b .before .before), up-ok b, rank-ok d, sym (c .before .spare-ok .ensures) ∙ not-false _ (c .if4 .left))
+    let b = c .before .before in
+    simp (across-ok (b .before .before), up-ok b, sym (c .before .fields-ok .ensures) ∙ not-false _ (c .if3 .left))
 
 pub record-outcome-spec : {M : Type 1} → statement M
 record-outcome-spec =
@@ -81,9 +56,6 @@ record-outcome-spec =
     add-in-range-at
     in-range-at-requires-2
     returns-2
-    add-if3
-    shared-slice-read-if3
+    fields-ok-requires
     returns-3
-    spare-ok-requires
-    returns-4
-    returns-5)
+    returns-4)

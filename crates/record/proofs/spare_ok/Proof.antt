@@ -11,10 +11,10 @@ use Rattle.record.proofs.spare_ok.Statement.{statement}
 use Rattle.record.proofs.spare_ok.Tie as tie
 
 abbrev Inv-loop : tie.InvT-loop
-Inv-loop s p k₀ k = Passed 7 (λ j. eqb (getD s (p + 9 + j) 0) 0) k
+Inv-loop s p k₀ k = Passed 4 (λ j. eqb (getD s (p + 12 + j) 0) 0) k
 
 abbrev μ-loop : tie.MeasureT-loop
-μ-loop s p k₀ k = 7 - k
+μ-loop s p k₀ k = 4 - k
 
 loop-holds : tie.Need-loop-holds Inv-loop μ-loop
 loop-holds c = passed-none
@@ -30,7 +30,7 @@ shared-slice-read-if1 c = omega arith
 
 returns : tie.Need-returns Inv-loop μ-loop
 unfolding spareOk
-returns c = sym (all-no 7 (c .before .before .before .loop .k) _ (omega arith) (ne-eqb _ _ (c .if1 .taken)))
+returns c = sym (all-no 4 (c .before .before .before .loop .k) _ (omega arith) (ne-eqb _ _ (c .if1 .taken)))
 
 add-k : tie.Need-add-k Inv-loop μ-loop
 add-k c = omega arith
