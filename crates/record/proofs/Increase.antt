@@ -1,8 +1,8 @@
 -- What a record adds to the pause line: the difference modulo 4,294,967,296 in plain words, the increase by whether a restart lies before the record, and
 -- the increase exactly as the plain statement says. Assumes nothing.
-use mathlib.Core.Path.{_≡_, refl, sym, ap, subst, _∙_}
+use mathlib.Core.Path.{_≡_, sym, subst, _∙_}
 use mathlib.Core.Logic.{_↔_, _⊎_, inl, inr, ⊎-elim}
-use mathlib.Core.Bool.{Bool, true, false, not, cond, true≢false, false≢true}
+use mathlib.Core.Bool.{true, false, not}
 use mathlib.Core.List.{List}
 use Prim.Native.Nat.{ℕ, suc, _+_, _*_, _-_, _/_, _%_, _≤_, _<_}
 use native.Mathlib.Nat.{lt-of-not-le}
@@ -10,7 +10,7 @@ use native.Mathlib.Decide.{decLe}
 use native.Mathlib.Omega.{arith}
 use lib.Dec.{ltb, eqb}
 use lib.ListN.{length, getD}
-use borrow.Author.Tests.{eq-eqb, ne-eqb, le-leb, lt-leb, ltb-true, ltb-false}
+use borrow.Author.Tests.{eqb-true, eqb-false, eq-eqb, ne-eqb, le-leb, lt-leb, ltb-true, ltb-false, not-true, not-false}
 use Rattle.refusal.specs.declared.Outcome.the-variants.{Done}
 use Rattle.refusal.proofs.Laws.{and-yes, and-no-left, and-no-right}
 use Rattle.refusal.proofs.Plain.{decided, by-equal}
@@ -43,46 +43,37 @@ module _ (earlier later : ℕ) (e : earlier < 4294967296) (l : later < 429496729
 
 -- ---- two records
 module _ (s : List ℕ) (p q : ℕ) where
+  -- both of edition 1, or not
+  abbrev NotBoth : Type 0
+  NotBoth = (edition s p ≡ 1 → ⊥) ⊎ (edition s q ≡ 1 → ⊥)
+
+  kinds : {A : Type 0} → (edition s p ≡ 1 → edition s q ≡ 1 → A) → (NotBoth → A) → A
+  kinds both other =
+      elim (decided _ (by-equal (edition s p) 1)) [
+        | yes e ↦ elim (decided _ (by-equal (edition s q) 1)) [
+          | yes f ↦ both e f
+          | no n ↦ other (inr n)
+        ]
+        | no n ↦ other (inl n)
+      ]
+
   with-boot : edition s p ≡ 1 → edition s q ≡ 1 → bothWithBoot s p q ≡ true
   unfolding bothWithBoot
   with-boot e f = and-yes (eq-eqb _ _ e) (eq-eqb _ _ f)
 
-  without-boot : (edition s p ≡ 1 → ⊥) ⊎ (edition s q ≡ 1 → ⊥) → bothWithBoot s p q ≡ false
+  without-boot : NotBoth → bothWithBoot s p q ≡ false
   unfolding bothWithBoot
   without-boot (inl n) = and-no-left _ (ne-eqb _ _ n)
   without-boot (inr n) = and-no-right (eqb (edition s p) 1) (ne-eqb _ _ n)
 
-  -- a restart, by the editions
   pub restarted-boots : edition s p ≡ 1 → edition s q ≡ 1 → restarted s p q ≡ not (eqb (boot s p) (boot s q))
   unfolding restarted
   restarted-boots e f = simp (with-boot e f)
 
-  pub restarted-old : (edition s p ≡ 1 → ⊥) ⊎ (edition s q ≡ 1 → ⊥) → restarted s p q ≡ ltb (counter s q) (counter s p)
+  pub restarted-old : NotBoth → restarted s p q ≡ ltb (counter s q) (counter s p)
   unfolding restarted
   restarted-old n = simp (without-boot n)
 
-  -- the increase, by whether there was one
-  pub increase-restarted : restarted s p q ≡ true → increase s p q ≡ counter s q
-  unfolding restarted increase
-  increase-restarted = by (bothWithBoot s p q) (eqb (boot s p) (boot s q))
-    where
-      by : (b e : Bool) → cond b (not e) (ltb (counter s q) (counter s p)) ≡ true
-          → cond b (cond e (difference (counter s p) (counter s q)) (counter s q)) (oldIncrease (counter s p) (counter s q)) ≡ counter s q
-      by true true h = absurd (false≢true h)
-      by true false h = refl
-      by false e h = old-restart _ _ (ltb-true _ _ h)
-
-  pub increase-on : counter s p < 4294967296 → counter s q < 4294967296 → restarted s p q ≡ false → increase s p q ≡ difference (counter s p) (counter s q)
-  unfolding restarted increase
-  increase-on x y = by (bothWithBoot s p q) (eqb (boot s p) (boot s q))
-    where
-      by : (b e : Bool) → cond b (not e) (ltb (counter s q) (counter s p)) ≡ false
-          → cond b (cond e (difference (counter s p) (counter s q)) (counter s q)) (oldIncrease (counter s p) (counter s q)) ≡ difference (counter s p) (counter s q)
-      by true true h = refl
-      by true false h = absurd (true≢false h)
-      by false e h = difference-old _ _ x y (ltb-false _ _ h)
-
-  -- the increase, by the editions
   same-boot : edition s p ≡ 1 → edition s q ≡ 1 → boot s p ≡ boot s q → increase s p q ≡ difference (counter s p) (counter s q)
   unfolding increase
   same-boot e f b = simp (with-boot e f, eq-eqb (boot s p) (boot s q) b)
@@ -91,43 +82,51 @@ module _ (s : List ℕ) (p q : ℕ) where
   unfolding increase
   new-boot e f n = simp (with-boot e f, ne-eqb (boot s p) (boot s q) n)
 
-  by-old-rule : (edition s p ≡ 0) ⊎ (edition s q ≡ 0) → increase s p q ≡ oldIncrease (counter s p) (counter s q)
+  by-old-rule : NotBoth → increase s p q ≡ oldIncrease (counter s p) (counter s q)
   unfolding increase
-  by-old-rule z = simp (without-boot (⊎-elim (λ e. inl (λ f. omega arith)) (λ e. inr (λ f. omega arith)) z))
+  by-old-rule n = simp (without-boot n)
+
+  -- after a restart the increase is the later counter
+  pub increase-restarted : restarted s p q ≡ true → increase s p q ≡ counter s q
+  increase-restarted h =
+      kinds (λ e f. new-boot e f (eqb-false _ _ (not-true _ (sym (restarted-boots e f) ∙ h))))
+      (λ n. by-old-rule n ∙ old-restart _ _ (ltb-true _ _ (sym (restarted-old n) ∙ h)))
 
   module _ (x : counter s p < 4294967296) (y : counter s q < 4294967296) where
+    -- and else the difference
+    pub increase-on : restarted s p q ≡ false → increase s p q ≡ difference (counter s p) (counter s q)
+    increase-on h =
+        kinds (λ e f. same-boot e f (eqb-true _ _ (not-false _ (sym (restarted-boots e f) ∙ h))))
+        (λ n. by-old-rule n ∙ difference-old _ _ x y (ltb-false _ _ (sym (restarted-old n) ∙ h)))
+
     -- it is what the plain statement says
     increase-adds : Adds s p q (increase s p q)
     increase-adds = record {
       same-boot = λ e f b. difference-meant _ _ x y _ .0 (same-boot e f b);
       new-boot = new-boot;
-      not-lower = λ z l. omega (arith, by-old-rule z ∙ old-on _ _ l);
-      lower = λ z l. by-old-rule z ∙ old-restart _ _ l;
+      not-lower = λ z l. omega (arith, by-old-rule (other z) ∙ old-on _ _ l);
+      lower = λ z l. by-old-rule (other z) ∙ old-restart _ _ l;
     }
+      where
+        other : (edition s p ≡ 0) ⊎ (edition s q ≡ 0) → NotBoth
+        other = ⊎-elim (λ z. inl (λ f. omega arith)) (λ z. inr (λ f. omega arith))
 
     -- and nothing else is, where there is no edition above 1
     adds-increase : edition s p ≤ 1 → edition s q ≤ 1 → (d : ℕ) → Adds s p q d → d ≡ increase s p q
-    adds-increase a b d h =
-        elim (decLe (edition s p) 0) [
-          | yes e ↦ old (inl (omega arith))
-          | no e ↦ elim (decLe (edition s q) 0) [
-            | yes f ↦ old (inr (omega arith))
-            | no f ↦ boots (omega (arith, lt-of-not-le e)) (omega (arith, lt-of-not-le f))
-          ]
-        ]
+    adds-increase a b d h = kinds boots (λ n. old (⊎-elim (λ e. inl (omega (arith, e))) (λ e. inr (omega (arith, e))) n))
       where
-        old : (edition s p ≡ 0) ⊎ (edition s q ≡ 0) → d ≡ increase s p q
-        old z =
-            elim (decLe (counter s p) (counter s q)) [
-              | yes l ↦ omega (arith, h .not-lower z l, increase-adds .not-lower z l)
-              | no l ↦ h .lower z (lt-of-not-le l) ∙ sym (increase-adds .lower z (lt-of-not-le l))
-            ]
-
         boots : edition s p ≡ 1 → edition s q ≡ 1 → d ≡ increase s p q
         boots e f =
             elim (decided _ (by-equal (boot s p) (boot s q))) [
               | yes o ↦ difference-meant _ _ x y d .1 (h .same-boot e f o) ∙ sym (same-boot e f o)
               | no n ↦ h .new-boot e f n ∙ sym (new-boot e f n)
+            ]
+
+        old : (edition s p ≡ 0) ⊎ (edition s q ≡ 0) → d ≡ increase s p q
+        old z =
+            elim (decLe (counter s p) (counter s q)) [
+              | yes l ↦ omega (arith, h .not-lower z l, increase-adds .not-lower z l)
+              | no l ↦ h .lower z (lt-of-not-le l) ∙ sym (increase-adds .lower z (lt-of-not-le l))
             ]
 
 -- ---- a file that is not refused: d is what the record after record i adds, exactly when the plain statement says so

@@ -8,7 +8,11 @@ use Rattle.refusal.specs.Check.{First}
 use Rattle.geometry.specs.Coordinate.{Coord}
 use Rattle.record.specs.Record.{across, up, counter, rank, boot, edition}
 
--- a spare byte of the record at place p is not zero
+-- both coordinates of the record at place p are in range
+abbrev pub Placed : List ℕ → ℕ → Type 0
+Placed s p = Coord (across s p) × Coord (up s p)
+
+-- a spare byte of it is not zero
 pub record SpareSet (s : List ℕ) (p : ℕ) : Type 0 where
   pub at : ℕ
   pub spare : at < 4
@@ -18,10 +22,7 @@ pub record SpareSet (s : List ℕ) (p : ℕ) : Type 0 where
 abbrev pub EditionWrong : List ℕ → ℕ → Type 0
 EditionWrong s p = (1 < edition s p) ⊎ ((edition s p ≡ 0) × (0 < boot s p))
 
--- both its coordinates are in range; its rank is above 16, its edition is wrong or a spare byte is not zero
-abbrev pub Placed : List ℕ → ℕ → Type 0
-Placed s p = Coord (across s p) × Coord (up s p)
-
+-- its rank is above 16, its edition is wrong or a spare byte is not zero
 abbrev pub Marred : List ℕ → ℕ → Type 0
 Marred s p = (16 < rank s p) ⊎ (EditionWrong s p ⊎ SpareSet s p)
 
