@@ -51,19 +51,13 @@ impl Trace {
         Ok(trace)
     }
 
-    fn add(self, lent: &mut Lent, x: i16, y: i16) -> Result<(Trace, usize), Refusal> {
+    fn put(self, lent: &mut Lent, v: usize, x: i16, y: i16) -> Result<(Trace, usize), Refusal> {
         self.check_table(lent, 0)?;
         ensure(in_range(x) && in_range(y), 6)?;
-        ensure(self.held < self.capacity, 7)?;
-        let longer = Trace { held: self.held + 1, ..self };
-        Ok((longer, longer.place(lent, self.held, x, y)))
-    }
-
-    fn correct(self, lent: &mut Lent, v: usize, x: i16, y: i16) -> Result<usize, Refusal> {
-        self.check_table(lent, 0)?;
-        ensure(in_range(x) && in_range(y), 6)?;
-        ensure(v < self.held, 8)?;
-        Ok(self.place(lent, v, x, y))
+        ensure(v != self.held || self.held < self.capacity, 7)?;
+        ensure(v <= self.held, 8)?;
+        let after = Trace { held: self.held.max(v + 1), ..self };
+        Ok((after, after.place(lent, v, x, y)))
     }
 
     /// The lowest sample that spoils stretch (i, j) at level k, none when it is permitted.
@@ -297,8 +291,8 @@ fn day_text(bytes: &[u8]) -> Result<String, Refusal> {
     let mut trace = Trace::start(3, CAPACITY, tolerances)?;
     let (samples, cells) = (vec![0; CAPACITY], vec![0; 32_768]);
     let mut lent = Lent { across: samples.clone(), up: samples, cells, ranks: vec![0; CAPACITY] };
-    for record in &records {
-        trace = trace.add(&mut lent, record.across, record.up)?.0;
+    for (v, record) in records.iter().enumerate() {
+        trace = trace.put(&mut lent, v, record.across, record.up)?.0;
     }
     let counts = trace.read(&mut lent)?;
     let mut text = format!("samples {} levels {}\n", trace.held, trace.levels);
@@ -390,11 +384,6 @@ impl Replay {
             }
             2 => self.poke(a[0], fit(a[1])?, a[2])?,
             3 => self.start(fit(a[0])?, fit(a[1])?, fit_tolerances(&a[2..18])?),
-            4 => self.add(fit(a[0])?, fit(a[1])?),
-            5 => {
-                let (refusal, cells) = answer(self.trace.correct(&mut self.lent, fit(a[0])?, fit(a[1])?, fit(a[2])?));
-                self.put_cells(refusal, cells);
-            }
             6 => match self.trace.ask(&self.lent, fit(a[0])?, fit(a[1])?, fit(a[2])?) {
                 Ok(None) => put(&mut self.text, format_args!("0 1 -\n")),
                 Ok(Some(spoiler)) => put(&mut self.text, format_args!("0 0 {spoiler}\n")),
@@ -402,6 +391,7 @@ impl Replay {
             },
             7 => self.read(),
             8 => self.decode(&rest[..RECORD]),
+            9 => self.put(fit(a[0])?, fit(a[1])?, fit(a[2])?),
             _ => return None,
         }
         Some(())
@@ -441,17 +431,10 @@ impl Replay {
         self.text.push('\n');
     }
 
-    fn add(&mut self, x: i16, y: i16) {
-        match self.trace.add(&mut self.lent, x, y) {
-            Ok((longer, cells)) => {
-                self.trace = longer;
-                self.put_cells(0, cells);
-            }
-            Err(refusal) => self.put_cells(refusal, 0),
-        }
-    }
-
-    fn put_cells(&mut self, refusal: Refusal, cells: usize) {
+    fn put(&mut self, v: usize, x: i16, y: i16) {
+        let (refusal, (after, cells)) =
+            self.trace.put(&mut self.lent, v, x, y).map_or_else(|refusal| (refusal, (self.trace, 0)), |done| (0, done));
+        self.trace = after;
         let crc = crc_of(&self.lent);
         put(&mut self.text, format_args!("{refusal} {cells} {} {crc}\n", self.trace.held));
     }

@@ -5,15 +5,15 @@ from itertools import combinations, product
 
 from cases_random import (ACROSS, CELL, FAULTS, NEVER_TOGETHER, RANK, TOP, UP, command, day, decode_case, foreign_case,
                           forged_case, grow, own_case, record, refused_case, sample, wild_case)
-from plain import ADD, ASK, BUFS, CORRECT, DECODE, NOT_PERMITTED, POKE, READ, SETUP, START
+from plain import ASK, BUFS, DECODE, NOT_PERMITTED, POKE, PUT, READ, SETUP, START
 
 RISING = tuple(range(1, 17))
 MOST = 2**31 - 1
 
 
-def every_call():
-    """One of each call on a trace, with arguments that a trace of two samples takes."""
-    return command(ADD, 5, 6), command(CORRECT, 1, 7, 8), command(ASK, 0, 1, 1), command(READ)
+def every_call(places=(1, 2, 3)):
+    """Each call on a trace, with arguments that a trace of two samples takes, and samples at these places."""
+    return *(command(PUT, v, 5 + p, 6) for p, v in enumerate(places)), command(ASK, 0, 1, 1), command(READ)
 
 
 def starts():
@@ -56,7 +56,16 @@ def lends():
     for n in 255, 256, 257, MOST:
         yield command(BUFS, 256, 256, 65536, 256)
         yield command(SETUP, 1, 256, n, *RISING)
-        yield from every_call()
+        yield from every_call(places=(1, n))
+
+
+def places(rng):
+    """A sample put at every place of a trace, at the next and past it, for every count of samples held."""
+    m, N = 2, 4
+    for n, v in product(range(N + 1), (*range(N + 3), MOST)):
+        yield from grow(rng, "exact", m, N, n)
+        for x, y in (7, 8), (16385, 8), (8, 7):
+            yield from (command(PUT, v, x, y), command(READ))
 
 
 def refusals(rng):
@@ -73,12 +82,14 @@ def coordinates():
     edges = 16384, 16385, -16384, -16385, 32767, -32768
     yield command(BUFS, 16, 16, 512, 16)
     yield command(START, 2, 16, *RISING)
+    held = 0
     for x, y in [(edge, 0) for edge in edges] + [(0, edge) for edge in edges]:
-        yield command(ADD, x, y)
-        yield command(CORRECT, 0, x, y)
+        yield command(PUT, held, x, y)
+        yield command(PUT, 0, x, y)
+        held += max(abs(x), abs(y)) <= 16384
     for which, place, value in product((ACROSS, UP), (0, 2, 3), edges):
         yield command(POKE, which, place, value)
-        yield from every_call()[1:]
+        yield from every_call(places=(1,))
         yield command(POKE, which, place, 0)
 
 
@@ -86,7 +97,7 @@ def cell_edges():
     """Every sort of value in every cell of four samples, each followed by a call."""
     m, N, n = 3, 5, 4
     yield from poked_trace(m, N, n, [N, N, m * N * N, N])
-    calls = command(READ), command(CORRECT, 2, 3, 3), command(ASK, 0, 3, 2), command(READ), command(ADD, 16385, 0)
+    calls = command(READ), command(PUT, 2, 3, 3), command(ASK, 0, 3, 2), command(READ), command(PUT, 4, 16385, 0)
     turn = 0
     for k, (i, j) in product(range(1, m + 1), combinations(range(n), 2)):
         most = 1 + (k - 1) * (j - i)
@@ -106,7 +117,7 @@ def unread_places(rng):
             yield command(POKE, CELL, (k - 1) * N * N + i * N + j, rng.choice([0, 999, NOT_PERMITTED, 65534]))
     for which, place in product((ACROSS, UP), range(n, N)):
         yield command(POKE, which, place, rng.choice([32767, -32768, 16385]))
-    yield from (command(READ), command(ASK, 0, 2, 1), command(CORRECT, 1, 2, 2), command(ADD, 9, 9), command(READ))
+    yield from (command(READ), command(ASK, 0, 2, 1), command(PUT, 1, 2, 2), command(PUT, n, 9, 9), command(READ))
 
 
 def dear_below():
@@ -115,9 +126,9 @@ def dear_below():
     yield command(BUFS, N, N, 3 * N * N, N)
     yield command(START, 3, N, 1, 5, 16)
     for p in range(4):
-        yield command(ADD, 10 * p, (0, 4, -4, 4)[p])
+        yield command(PUT, p, 10 * p, (0, 4, -4, 4)[p])
     yield command(POKE, CELL, N * N + 3, 2)
-    yield from (command(ADD, 40, 0), command(READ), command(CORRECT, 4, 41, 0), command(READ))
+    yield from (command(PUT, 4, 40, 0), command(READ), command(PUT, 4, 41, 0), command(READ))
 
 
 def asks(rng):
@@ -134,12 +145,12 @@ def spoilers():
     yield command(START, 2, 6, 1, 5)
     up = [0] * 6
     for p in range(6):
-        yield command(ADD, 10 * p, up[p])
+        yield command(PUT, p, 10 * p, up[p])
     for heights in product((0, 4, 9), repeat=4):
         for p, height in enumerate(heights, 1):
             if up[p] != height:
                 up[p] = height
-                yield command(CORRECT, p, 10 * p, height)
+                yield command(PUT, p, 10 * p, height)
         yield from (command(ASK, 0, 5, 1), command(ASK, 0, 5, 2))
 
 
@@ -147,8 +158,9 @@ def question_marks():
     """Commands that cannot be taken, and their nearest that can; the reads show that nothing changed."""
     yield from poked_trace(2, 3, 2, [3, 3, 18, 3])
     yield command(READ)
-    for operation in 9, 10, 128, 255:
+    for operation in 4, 5, 10, 128, 255:
         yield command(operation)
+    yield from (command(4, 3, 3), command(5, 0, 3, 3))  # an addition and a correction, once calls of their own
     for at in 1, 2, 3:
         yield command(READ)[:at] + b"\x01" + command(READ)[at + 1:]
     for bad in (-1, 3, 18, 3), (3, 321, 18, 3), (3, 3, 1048577, 3), (3, 3, 18, 321), (3, 3, -1, 3), (3, 3, 18, -1):
@@ -163,18 +175,18 @@ def question_marks():
     for at in 0, 1, 2, 17:
         yield command(START, *[-1 if p == at else 2 for p in range(18)])
     for bad in (32768, 0), (-32769, 0), (0, 32768), (0, -32769):
-        yield command(ADD, *bad)
-        yield command(CORRECT, 0, *bad)
+        yield command(PUT, 2, *bad)
+        yield command(PUT, 0, *bad)
     for bad in (-1, 1, 1), (0, -1, 1), (0, 1, -1):
         yield command(ASK, *bad)
-    yield command(CORRECT, -1, 0, 0)
+    yield command(PUT, -1, 0, 0)
     yield command(READ, *[-1] * 19)
     yield command(ASK, 0, 1, 1, *[-1] * 16)
-    yield command(CORRECT, 0, 4, 4, *[-1] * 16)
-    yield command(ADD, 3, 3, *[-1] * 17)
+    yield command(PUT, 0, 4, 4, *[-1] * 16)
+    yield command(PUT, 2, 3, 3, *[-1] * 16)
     yield command(BUFS, 4, 4, 18, 4, -1)
     yield command(START, 2, 3, *RISING, -1)
-    yield command(ADD, 1, 1)
+    yield command(PUT, 0, 1, 1)
 
 
 def decodes(rng):
@@ -198,17 +210,18 @@ def full_size(rng):
     yield command(BUFS, 320, 320, 1048576, 320)
     yield command(START, 16, 256, *RISING[:15], 40)
     for p in range(256):
-        yield command(ADD, *sample(rng, "saw" if p < 128 else "noisy", p))
-    yield from (command(READ), command(ADD, 0, 0), command(ASK, 0, 255, 16), command(ASK, 3, 9, 16))
+        yield command(PUT, p, *sample(rng, "saw" if p < 128 else "noisy", p))
+    yield from (command(READ), command(PUT, 256, 0, 0), command(PUT, 257, 0, 0))
+    yield from (command(ASK, 0, 255, 16), command(ASK, 3, 9, 16))
     for v in 255, 250, 128:
-        yield command(CORRECT, v, *sample(rng, "saw", v + 1))
+        yield command(PUT, v, *sample(rng, "saw", v + 1))
     yield command(READ)
 
 
 def replay_script(rng):
     """The whole standard input of replay; its last command is cut short."""
-    parts = [starts(), lends(), refusals(rng), coordinates(), cell_edges(), unread_places(rng), dear_below(),
-             asks(rng), spoilers(), question_marks(), decodes(rng)]
+    parts = [starts(), lends(), places(rng), refusals(rng), coordinates(), cell_edges(), unread_places(rng),
+             dear_below(), asks(rng), spoilers(), question_marks(), decodes(rng)]
     parts += [own_case(rng, 7, 3) for _ in range(70)]
     parts += [own_case(rng, 4, 16) for _ in range(6)]
     parts += [own_case(rng, 30, 5) for _ in range(10)]

@@ -3,17 +3,16 @@
 import struct
 from itertools import combinations, product
 
-from plain import ADD, ASK, BUFS, CORRECT, DECODE, NOT_PERMITTED, POKE, READ, SETUP, START
+from plain import ASK, BUFS, DECODE, NOT_PERMITTED, POKE, PUT, READ, SETUP, START
 
 ACROSS, UP, CELL, RANK = range(4)
 FAULTS = {  # the refusals that can arise in each call
     START: (1, 2),
-    ADD: (1, 2, 3, 4, 5, 6, 7),
-    CORRECT: (1, 2, 3, 4, 5, 6, 8),
+    PUT: (1, 2, 3, 4, 5, 6, 7, 8),
     ASK: (1, 2, 3, 4, 5, 8),
     READ: (1, 2, 3, 4, 5, 9),
 }
-NEVER_TOGETHER = {(4, 7), (4, 9)}
+NEVER_TOGETHER = {(4, 7), (4, 9), (7, 8)}
 TASTES = "none", "least", "most", "any"
 KINDS = "equal", "back", "extreme", "line", "exact", "flat", "saw", "noisy"
 
@@ -79,7 +78,7 @@ def grow(rng, kind, m, N, n, spare=0):
     yield command(BUFS, N + spare, N, m * N * N + spare, n + spare)
     yield command(START, m, N, *tolerances(rng, kind, m))
     for p in range(n):
-        yield command(ADD, *sample(rng, kind, p))
+        yield command(PUT, p, *sample(rng, kind, p))
         if rng.random() < 0.3:
             yield command(READ)
 
@@ -87,12 +86,12 @@ def grow(rng, kind, m, N, n, spare=0):
 def corrections(rng, kind, n, times):
     """Corrections of first, last and other samples, some taken back, each followed by a read."""
     for v in [0, n - 1, *(rng.randrange(n) for _ in range(times))]:
-        yield command(CORRECT, v, *sample(rng, kind, v))
+        yield command(PUT, v, *sample(rng, kind, v))
         yield command(READ)
         if rng.random() < 0.3:
             here, there = sample(rng, kind, v), sample(rng, kind, v + 1)
             for place in here, there, here:
-                yield command(CORRECT, v, *place)
+                yield command(PUT, v, *place)
             yield command(READ)
 
 
@@ -123,11 +122,11 @@ def foreign_case(rng):
     if rng.random() < 0.3:
         yield command(SETUP, m, N, n, *tolerances(rng, kind, m)[:m], *[rng.randint(0, 9) for _ in range(16 - m)])
     yield command(READ)
+    held = n
     for _ in range(rng.randint(2, 4)):
-        if rng.random() < 0.7:
-            yield command(CORRECT, rng.randrange(n), *sample(rng, kind, n))
-        else:
-            yield command(ADD, *sample(rng, kind, n))
+        v = rng.randrange(n) if rng.random() < 0.7 else held
+        held += v == held < N
+        yield command(PUT, v, *sample(rng, kind, n))
         yield command(READ)
 
 
@@ -149,16 +148,14 @@ def spoiled_places(rng, call, m, N, n):
         yield command(POKE, CELL, (k - 1) * N * N + i * N + j, rng.choice(illegal_cells(k, i, j)))
 
 
-def refused_call(rng, call, faults, n, m):
+def refused_call(rng, call, faults, n, N, m):
     """The call itself, with the faults that lie in its arguments."""
     x, y = sample(rng, "noisy", 0)
     if 6 in faults:
         x, y = rng.choice([(16385, y), (x, 16385), (-16385, y), (x, -16385), (32767, -32768)])
-    if call == ADD:
-        return command(ADD, x, y)
-    if call == CORRECT:
-        v = rng.choice([n, n + 1, 2**31 - 1]) if 8 in faults else rng.randrange(max(n, 1))
-        return command(CORRECT, v, x, y)
+    if call == PUT:
+        v = n if 7 in faults else rng.choice([n + 1, n + 2, 2**31 - 1]) if 8 in faults else rng.randrange(min(n + 1, N))
+        return command(PUT, v, x, y)
     if call == READ:
         return command(READ)
     i, j, k = 0, max(n - 1, 1), rng.randint(1, m)
@@ -172,7 +169,7 @@ def refused_case(rng, call, faults):
     m, n, kind = rng.randint(1, 3), rng.randint(2, 3), rng.choice(KINDS)
     if 9 in faults:
         n = 1 if 5 in faults else rng.randint(0, 1)
-    N = n if 7 in faults else max(n, 2) + rng.randint(1, 2)
+    N = n if 7 in faults else max(n, 2) + rng.randint(0 if call == PUT else 1, 2)
     if 4 in faults:
         n = N + rng.choice([1, 1, 40])
     lends = [N, N, m * N * N, n if call == READ else 0]
@@ -197,7 +194,7 @@ def refused_case(rng, call, faults):
         yield command(START, *forged, *given)
     else:
         yield command(SETUP, *forged, n, *given)
-        yield refused_call(rng, call, faults, n, m)
+        yield refused_call(rng, call, faults, n, N, m)
 
 
 def faults_of(rng, call):
@@ -220,7 +217,7 @@ def wild_case(rng):
     """A trace, then commands of any operation with any numbers; many print a question mark."""
     yield from grow(rng, rng.choice(KINDS), rng.randint(1, 3), 6, rng.randint(1, 5))
     for _ in range(rng.randint(5, 15)):
-        operation = rng.choice([POKE, POKE, SETUP, START, ADD, CORRECT, ASK, READ, DECODE, BUFS, rng.randrange(256)])
+        operation = rng.choice([POKE, POKE, SETUP, START, PUT, PUT, ASK, READ, DECODE, BUFS, rng.randrange(256)])
         numbers = [number(rng) if rng.random() < 0.3 else rng.randint(0, 6) for _ in range(19)]
         wild = bytearray(command(operation, *numbers))
         if rng.random() < 0.03:

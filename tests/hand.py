@@ -82,9 +82,9 @@ def hold(samples, tolerances):
     """A trace that holds these samples, and its buffers."""
     lent = lend(16, len(tolerances))
     refusal, trace = plain.start(len(tolerances), 16, tolerances)
-    for x, y in samples:
+    for v, (x, y) in enumerate(samples):
         assert refusal == 0
-        refusal, _, trace = plain.add(trace, lent, x, y)
+        refusal, _, trace = plain.put(trace, lent, v, x, y)
     return trace, lent
 
 
@@ -118,9 +118,23 @@ def check_refusals():
         assert plain.start(m, N, padded)[0] == refusal, (m, N, tolerances)
     trace, lent = hold([(0, 0)], (1,))
     assert plain.read(trace, lent) == (9, 0, [0] * 16)
-    assert plain.add(trace, lent, 16_385, 0)[:2] == (6, 0)
-    assert plain.add(trace, lent, 16_384, -16_384)[:2] == (0, 1)
-    assert plain.correct(trace, lent, 0, 1, 1) == (0, 0)
+    assert plain.put(trace, lent, 1, 16_385, 0) == (6, 0, trace)
+    assert plain.put(trace, lent, 2, 0, 0) == (8, 0, trace)
+    assert plain.put(trace, lent, 1, 16_384, -16_384) == (0, 1, trace._replace(n=2))
+    assert plain.put(trace, lent, 0, 1, 1) == (0, 0, trace)
+
+
+def check_places():
+    """A sample put at every place: refused with 7 or 8, or the count is m times n, or that of a correction."""
+    for n, v in product(range(17), range(19)):
+        trace, lent = hold([(p, p * p % 5) for p in range(n)], (1, 2, 3))
+        refusal, cells, after = plain.put(trace, lent, v, 4, 4)
+        if v < n:
+            assert (refusal, cells, after.n) == (0, 3 * ((v + 1) * (n - v) - 1), n), (n, v)
+        elif v == n < 16:
+            assert (refusal, cells, after.n) == (0, 3 * n, n + 1), (n, v)
+        else:
+            assert (refusal, cells, after) == (7 if v == n else 8, 0, trace), (n, v)
 
 
 def check_lowest():
@@ -150,5 +164,6 @@ def check():
     check_geometry()
     check_ranks()
     check_refusals()
+    check_places()
     check_lowest()
     check_records()

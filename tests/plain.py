@@ -251,25 +251,17 @@ def start(m, N, tolerances):
     return (refusal, NO_TRACE) if refusal else (0, trace)
 
 
-def add(trace, lent, x, y):
+def put(trace, lent, v, x, y):
+    """Corrects sample v, or adds it where v is n."""
     refusal = lowest(*table_checks(trace, lent),
                      (6, lambda: bad_coordinates(x, y)),
-                     (7, lambda: trace.n == trace.N))
+                     (7, lambda: v == trace.n == trace.N),
+                     (8, lambda: v > trace.n))
     if refusal:
         return refusal, 0, trace
-    lent.across[trace.n], lent.up[trace.n] = x, y
-    longer = trace._replace(n=trace.n + 1)
-    return 0, rewrite(longer, lent, trace.n), longer
-
-
-def correct(trace, lent, v, x, y):
-    refusal = lowest(*table_checks(trace, lent),
-                     (6, lambda: bad_coordinates(x, y)),
-                     (8, lambda: v >= trace.n))
-    if refusal:
-        return refusal, 0
     lent.across[v], lent.up[v] = x, y
-    return 0, rewrite(trace, lent, v)
+    after = trace._replace(n=trace.n + 1) if v == trace.n else trace
+    return 0, rewrite(after, lent, v), after
 
 
 def ask(trace, lent, i, j, k):
@@ -359,9 +351,9 @@ def dayline(data):
         return f"refused {refusal}\n"
     _, trace = start(3, 104, (1, 4, 16) + (0,) * 13)
     lent = Lent(array("h", [0] * 104), array("h", [0] * 104), array("H", [0] * 32_768), array("B", [0] * 104))
-    for one in split_records(data):
+    for place, one in enumerate(split_records(data)):
         _, record = decode(one)
-        refusal, _, trace = add(trace, lent, record.across, record.up)
+        refusal, _, trace = put(trace, lent, place, record.across, record.up)
         if refusal:
             return f"refused {refusal}\n"
     refusal, total, counts = read(trace, lent)
@@ -389,18 +381,18 @@ def days(data):
 
 # ---- Replay --------------------------------------------------------------------------------------------
 
-BUFS, SETUP, POKE, START, ADD, CORRECT, ASK, READ, DECODE = range(9)
+BUFS, SETUP, POKE, START = range(4)
+ASK, READ, DECODE, PUT = range(6, 10)
 UNSIGNED, SIGNED16 = (0, 2**31 - 1), (-2**15, 2**15 - 1)
 ARGUMENTS = {  # the range of each number that the operation uses
     BUFS: [(0, 320), (0, 320), (0, 1_048_576), (0, 320)],
     SETUP: [UNSIGNED] * 19,
     POKE: [(0, 3), UNSIGNED, (-2**31, 2**31 - 1)],
     START: [UNSIGNED] * 18,
-    ADD: [SIGNED16] * 2,
-    CORRECT: [UNSIGNED, SIGNED16, SIGNED16],
     ASK: [UNSIGNED] * 3,
     READ: [],
     DECODE: [],
+    PUT: [UNSIGNED, SIGNED16, SIGNED16],
 }
 POKED = [SIGNED16, SIGNED16, (0, 2**16 - 1), (0, 2**8 - 1)]
 
@@ -433,7 +425,8 @@ class Replay:
         numbers = struct.unpack("<19i", command[4:])[:len(ranges)]
         if any(not low <= number <= high for number, (low, high) in zip(numbers, ranges)):
             return "?"
-        calls = self.bufs, self.setup, self.poke, self.start, self.add, self.correct, self.ask, self.read
+        calls = {BUFS: self.bufs, SETUP: self.setup, POKE: self.poke, START: self.start, ASK: self.ask,
+                 READ: self.read, PUT: self.put}
         return calls[operation](*numbers)
 
     def checksum(self):
@@ -465,14 +458,8 @@ class Replay:
         given = (refusal, self.trace.m, self.trace.N, self.trace.n, *self.trace.tolerances)
         return " ".join(map(str, given))
 
-    def add(self, x, y):
-        refusal, cells, self.trace = add(self.trace, self.lent, x, y)
-        return self.changed(refusal, cells)
-
-    def correct(self, v, x, y):
-        return self.changed(*correct(self.trace, self.lent, v, x, y))
-
-    def changed(self, refusal, cells):
+    def put(self, v, x, y):
+        refusal, cells, self.trace = put(self.trace, self.lent, v, x, y)
         if not refusal and self.own_table:
             compare_costs(self.trace, self.lent)
         return f"{refusal} {cells} {self.trace.n} {self.checksum()}"

@@ -67,7 +67,7 @@ fn add_all(
     while i < n {
         let x = samples[2 * i];
         let y = samples[2 * i + 1];
-        let added = trace.add(xs, ys, table, x, y);
+        let added = trace.put(xs, ys, table, i, x, y);
         trace = added.trace;
         i += 1;
     }
@@ -195,7 +195,7 @@ fn adding(x: i16, y: i16) {
     let mut table = [0u16; 4];
     let started = Trace::start(1, 2, tolerances(1, 0));
     let empty = started.trace;
-    let added = empty.add(&mut xs, &mut ys, &mut table, x, y);
+    let added = empty.put(&mut xs, &mut ys, &mut table, 0, x, y);
     let o = added.outcome;
     say(b"sample ");
     say_sample(x, y);

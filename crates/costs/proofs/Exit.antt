@@ -3,7 +3,7 @@ use mathlib.Core.Path.{_≡_, refl, sym, _∙_}
 use mathlib.Core.Logic.{_⊎_, inl, inr, ⊎-elim}
 use mathlib.Core.Bool.{Bool, true}
 use mathlib.Core.List.{List}
-use Prim.Native.Nat.{ℕ, suc, _+_, _*_, _≤_, _<_}
+use Prim.Native.Nat.{ℕ, suc, _*_, _≤_, _<_}
 use native.Mathlib.Omega.{arith}
 use lib.IntN.{ℤ}
 use lib.ListN.{length, set}
@@ -82,38 +82,29 @@ rewritten-some N perm m v n o hn t room =
         (λ k i j s. after-with perm (cell t N) v k i j (s .0) (s .2) (s .3)
         ∙ value-same perm perm (after perm (cell t N) v) (cell e N) k i j (s .4) refl (λ ℓ p q a b u d h. cells e w ℓ p q a (omega arith) d (omega arith)))
 
--- a stretch of n + 1 samples without the last is one of n samples
-pub earlier : (n i j : ℕ) → i < j → j < n + 1 → Without n i j → j < n
-earlier n i j o h (inl y) = y
-earlier n i j o h (inr y) = absurd (omega arith)
+-- sample v is put: of the n′ samples then held, all but v were among the n held before
+abbrev pub Others : ℕ → ℕ → ℕ → Type 0
+Others v n n′ = (q : ℕ) → q < n′ → (q ≡ v → ⊥) → q < n
 
--- sample v corrected, and sample n added
-module _ (N : ℕ) (xs ys : List ℤ) (tols : List ℕ) (x y : ℤ) (m n : ℕ) (t e : List ℕ) where
-  pub corrected-genuine : (v : ℕ) → n ≤ N → Rewritten N (perm (set xs v x) (set ys v y) tols) (Named m v n) t e
-      → Genuine (perm xs ys tols) (cell t N) m n → Genuine (perm (set xs v x) (set ys v y) tols) (cell e N) m n
-  unfolding Genuine
-  corrected-genuine v h w g =
-      rewritten-genuine N (perm (set xs v x) (set ys v y) tols) m v n h t e w (perm xs ys tols) (λ k i j a b o d z. g k i j a b o d) (λ k i j a b o d z. perm-put xs ys tols v k i j x y z)
+-- so the end of a stretch without v was held before
+pub held-end : {v n n′ : ℕ} → Others v n n′ → (i j : ℕ) → i < j → j < n′ → Without v i j → j < n
+held-end others i j o h (inl y) = others j h (λ e. omega arith)
+held-end others i j o h (inr y) = others j h (λ e. omega arith)
 
-  pub added-genuine : n < N → Rewritten N (perm (set xs n x) (set ys n y) tols) (Named m n (n + 1)) t e
-      → Genuine (perm xs ys tols) (cell t N) m n → Genuine (perm (set xs n x) (set ys n y) tols) (cell e N) m (n + 1)
-  unfolding Genuine
-  added-genuine h w g =
-      rewritten-genuine N (perm (set xs n x) (set ys n y) tols) m n (n + 1) (omega arith) t e w (perm xs ys tols)
-      (λ k i j a b o d z. g k i j a b o (earlier n i j o d z)) (λ k i j a b o d z. perm-put xs ys tols n k i j x y z)
+module _ (N m v n n′ : ℕ) (others : Others v n n′) (t : List ℕ) where
+  -- what check 5 gives the walk
+  pub put-steps : Checked (cell t N) m n → LowSteps t N m v n′
+  put-steps checked k x a b h z = omega (arith, checked-near (cell t N) m n checked k x a b (held-end others x (suc x) (omega arith) h z))
 
--- check 5: what it gives the walk, and that it holds again
-module _ (N : ℕ) (m n : ℕ) (t : List ℕ) (checked : Checked (cell t N) m n) where
-  pub corrected-steps : (v : ℕ) → LowSteps t N m v n
-  corrected-steps v k x a b h z = omega (arith, checked-near (cell t N) m n checked k x a b h)
+  module _ (xs ys : List ℤ) (tols : List ℕ) (e : List ℕ) (room : n′ ≤ N) where
+    -- it holds again
+    pub put-checked : m ≤ 16 → N ≤ 256 → Checked (cell t N) m n → Rewritten N (perm xs ys tols) (Named m v n′) t e → Checked (cell e N) m n′
+    put-checked hm hN checked w =
+        rewritten-checked N (perm xs ys tols) m v n′ room t e w (perm-adjacent xs ys tols) hm (omega arith) (λ k i j a b o d z. checked k i j a b o (held-end others i j o d z))
 
-  pub added-steps : LowSteps t N m n (n + 1)
-  added-steps k x a b h z = omega (arith, checked-near (cell t N) m n checked k x a b (earlier n x (suc x) (omega arith) h z))
-
-  module _ (xs ys : List ℤ) (tols : List ℕ) (e : List ℕ) (hm : m ≤ 16) (hN : N ≤ 256) where
-    pub corrected-checked : (v : ℕ) → n ≤ N → Rewritten N (perm xs ys tols) (Named m v n) t e → Checked (cell e N) m n
-    corrected-checked v h w = rewritten-checked N (perm xs ys tols) m v n h t e w (perm-adjacent xs ys tols) hm (omega arith) (λ k i j a b o d z. checked k i j a b o d)
-
-    pub added-checked : n < N → Rewritten N (perm xs ys tols) (Named m n (n + 1)) t e → Checked (cell e N) m (n + 1)
-    added-checked h w =
-        rewritten-checked N (perm xs ys tols) m n (n + 1) (omega arith) t e w (perm-adjacent xs ys tols) hm (omega arith) (λ k i j a b o d z. checked k i j a b o (earlier n i j o d z))
+    pub put-genuine : (x y : ℤ) → Rewritten N (perm (set xs v x) (set ys v y) tols) (Named m v n′) t e
+        → Genuine (perm xs ys tols) (cell t N) m n → Genuine (perm (set xs v x) (set ys v y) tols) (cell e N) m n′
+    unfolding Genuine
+    put-genuine x y w g =
+        rewritten-genuine N (perm (set xs v x) (set ys v y) tols) m v n′ room t e w (perm xs ys tols)
+        (λ k i j a b o d z. g k i j a b o (held-end others i j o d z)) (λ k i j a b o d z. perm-put xs ys tols v k i j x y z)

@@ -1,5 +1,5 @@
 -- What the walk writes, in the paper's words: the values of the named cells in any table that passes check 5, and demand 3's step: where every cell was
--- the cost of its stretch, it is again after a sample is corrected or added. Assumes nothing.
+-- the cost of its stretch, it is again after a sample is put. Assumes nothing.
 use mathlib.Core.Path.{_≡_, refl}
 use mathlib.Core.Logic.{_↔_, ⊎-elim}
 use mathlib.Core.List.{List, [], _∷_}
@@ -22,7 +22,7 @@ use Rattle.table.specs.Table.{cell}
 use Rattle.costs.specs.Costs.{Permit, Named, CellsWritten}
 use Rattle.costs.specs.Walk.{perm, Rewritten}
 use Rattle.costs.proofs.Perm.{perm-decided, perm-adjacent}
-use Rattle.costs.proofs.Exit.{named-kept, rewritten-checked, rewritten-unique, corrected-genuine, added-genuine}
+use Rattle.costs.proofs.Exit.{named-kept, rewritten-checked, rewritten-unique, Others, put-genuine}
 
 module _ (xs ys : List ℤ) (tols : List ℕ) (m n : ℕ) (across : InRange xs n) (upward : InRange ys n) where
   -- the test decides each stretch of the n samples
@@ -84,18 +84,11 @@ module _ (N : ℕ) (xs ys : List ℤ) (tols : List ℕ) (m v n : ℕ) (t : List 
   pub cells-one : v < n → (e f : List ℕ) → CellsWritten N (Permit xs ys tols) m v n t e → CellsWritten N (Permit xs ys tols) m v n t f → e ≡ f
   cells-one o e f w x = rewritten-unique N (perm xs ys tols) m v n o room t e f (cells-rewritten e w) (cells-rewritten f x)
 
--- the samples before, a new sample (x, y), and the tables before and after
-module _ (N : ℕ) (xs ys : List ℤ) (tols : List ℕ) (x y : ℤ) (m n : ℕ) (t e : List ℕ) (few : m ≤ 16) (small : N ≤ 256) (across : InRange xs n) (upward : InRange ys n) where
-  pub corrected-costs : (v : ℕ) → n ≤ N → InRange (set xs v x) n → InRange (set ys v y) n
-      → Rewritten N (perm (set xs v x) (set ys v y) tols) (Named m v n) t e
-      → Levels.Costs (Permit xs ys tols) (cell t N) m n → Levels.Costs (Permit (set xs v x) (set ys v y) tols) (cell e N) m n
-  corrected-costs v h across' upward' w C =
-      genuine-is (set xs v x) (set ys v y) tols m n across' upward' few (omega arith) (cell e N) .0
-      (corrected-genuine N xs ys tols x y m n t e v h w (genuine-is xs ys tols m n across upward few (omega arith) (cell t N) .1 C))
-
-  pub added-costs : n < N → InRange (set xs n x) (n + 1) → InRange (set ys n y) (n + 1)
-      → Rewritten N (perm (set xs n x) (set ys n y) tols) (Named m n (n + 1)) t e
-      → Levels.Costs (Permit xs ys tols) (cell t N) m n → Levels.Costs (Permit (set xs n x) (set ys n y) tols) (cell e N) m (n + 1)
-  added-costs h across' upward' w C =
-      genuine-is (set xs n x) (set ys n y) tols m (n + 1) across' upward' few (omega arith) (cell e N) .0
-      (added-genuine N xs ys tols x y m n t e h w (genuine-is xs ys tols m n across upward few (omega arith) (cell t N) .1 C))
+-- the samples before, of which n are held, sample v put as (x, y), n′ then held, and the tables before and after
+module _ (N : ℕ) (xs ys : List ℤ) (tols : List ℕ) (x y : ℤ) (m v n n′ : ℕ) (t e : List ℕ) (few : m ≤ 16) (small : N ≤ 256) (room : n ≤ N) (across : InRange xs n) (upward : InRange ys n)
+    (others : Others v n n′) where
+  pub put-costs : n′ ≤ N → InRange (set xs v x) n′ → InRange (set ys v y) n′ → Rewritten N (perm (set xs v x) (set ys v y) tols) (Named m v n′) t e
+      → Levels.Costs (Permit xs ys tols) (cell t N) m n → Levels.Costs (Permit (set xs v x) (set ys v y) tols) (cell e N) m n′
+  put-costs h across' upward' w C =
+      genuine-is (set xs v x) (set ys v y) tols m n′ across' upward' few (omega arith) (cell e N) .0
+      (put-genuine N m v n n′ others t xs ys tols e h x y w (genuine-is xs ys tols m n across upward few (omega arith) (cell t N) .1 C))

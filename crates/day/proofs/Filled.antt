@@ -13,7 +13,7 @@ use Rattle.refusal.specs.declared.Refusal.{Refusal}
 use Rattle.refusal.specs.declared.Outcome.the-variants.{Done, Refused}
 use Rattle.refusal.specs.Number.{number, code}
 use Rattle.refusal.specs.Check.{First, allBelow}
-use Rattle.refusal.proofs.Rows.{code-one, first-passed, numbered}
+use Rattle.refusal.proofs.Rows.{code-one, first-passed, first-same, numbered}
 use Rattle.geometry.specs.Coordinate.{InRange}
 use Rattle.record.specs.Record.{across, up}
 use Rattle.record.specs.Pause.{pauseLineOf}
@@ -21,13 +21,14 @@ use Rattle.trace.specs.declared.Trace.{Trace}
 use Rattle.trace.specs.declared.Started.{Started}
 use Rattle.trace.specs.declared.Changed.{Changed}
 use Rattle.trace.specs.Numbers.{Sized, Tolerances, TraceNumber}
-use Rattle.trace.specs.Calls.{StartGives, AddGives, buffers}
+use Rattle.trace.specs.Calls.{StartGives, PutGives, buffers}
 use Rattle.trace.specs.Rows.{tolerancesOk, toleranceOk}
 use Rattle.trace.proofs.Calls.{done-refused}
 use Rattle.trace.proofs.Decided.{tolerances-decided}
+use Rattle.trace.proofs.Formulas.{put-adds}
 use Rattle.history.specs.Run.{State, Call}
-use Rattle.history.specs.Run.Call.{add}
-use Rattle.history.specs.Run.Step.{adds}
+use Rattle.history.specs.Run.Call.{put}
+use Rattle.history.specs.Run.Step.{puts}
 use Rattle.history.proofs.Sound.{Sound, state, step-sound}
 use Rattle.history.proofs.Follows.{Possible, step-number}
 use Rattle.day.specs.Day.{count, tolerances}
@@ -87,19 +88,20 @@ module _ (s : List ℕ) (good : pauseLineOf s .outcome ≡ Done) (n : ℕ) {xs y
 
   -- one record more: it is added, or there is no room
   module _ (more : n < count s) {r : Changed} {xs′ ys′ : List ℤ} {t′ : List ℕ}
-      (G : AddGives (dayTrace n) (buffers xs ys t) (across s (16 * n)) (up s (16 * n)) r (buffers xs′ ys′ t′)) where
+      (G : PutGives (dayTrace n) (buffers xs ys t) n (across s (16 * n)) (up s (16 * n)) r (buffers xs′ ys′ t′)) where
     pub added-number : First 7 (n ≡ 104) (λ k. k ≡ 0) (code (r .outcome))
     added-number =
         let S = filled-sound (omega arith) [] in
         let e : State = state (r .trace) (buffers xs′ ys′ t′) [] in
-        first-passed (λ m. m (good-placed s good n more))
-        (past-trace (add (across s (16 * n)) (up s (16 * n))) n (F .room) (omega (arith, F .lent), omega (arith, F .lent)) (step-number {e = e} S (adds G refl refl)) (G .number))
+        first-same (λ p. p .1, λ z. (refl, z)) (first-passed (λ o. omega arith))
+        (first-passed (λ m. m (good-placed s good n more))
+        (past-trace (put n (across s (16 * n)) (up s (16 * n))) n (F .room) (omega (arith, F .lent), omega (arith, F .lent)) (step-number {e = e} S (puts G refl refl)) (G .number)))
 
     pub filled-more : r .outcome ≡ Done → (r .trace ≡ dayTrace (n + 1)) × Filled s (n + 1) xs′ ys′ t′
     filled-more d =
-        let P = G .done d in
+        let P = put-adds (dayTrace n) (buffers xs ys t) n (across s (16 * n)) (up s (16 * n)) r (buffers xs′ ys′ t′) G d refl in
         let room : n < 104 = ⊎-elim (λ a. absurd (omega (arith, ap code d, a .1))) (λ a. omega (arith, F .room, a .0)) added-number in
-        let S = step-sound {e = state (dayTrace (n + 1)) (buffers xs′ ys′ t′) []} (filled-sound (omega arith) []) (adds G (sym (P .trace)) refl) in (
+        let S = step-sound {e = state (dayTrace (n + 1)) (buffers xs′ ys′ t′) []} (filled-sound (omega arith) []) (puts G (sym (P .trace)) refl) in (
           P .trace,
           record {
             room = omega arith;

@@ -51,7 +51,7 @@ module _ {s out out′ : List ℕ} {r : ℕ} {why : Refusal} where
       let g : FileGiven s (code (l .outcome)) = rw e (file-given s) in
       refused-text (inl (g, refusal-some h)) (refusal-some h) W
 
-  -- by an add
+  -- by a put
   pub reported-full : {c : Changed} {xs ys : List ℤ} {t : List ℕ} → pauseLineOf s .outcome ≡ Done → AddsAll s c xs ys t → c .outcome ≡ Refused why
       → Written out 0 (refusedLine (code (c .outcome))) out′ r → Reported s out out′ r
   reported-full good A h W = refused-text (inr (good-given s good, ⊎-elim inl (λ a. absurd (refusal-some h (a .1))) (A .number))) (refusal-some h) W

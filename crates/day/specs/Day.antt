@@ -33,7 +33,7 @@ upOf s = listed (λ i. up s (16 * i))
 abbrev pub tolerances : List ℕ
 tolerances = 1 ∷ 4 ∷ 16 ∷ replicate 13 0
 
--- the number of a refused day, 0 for none: the pause line's first, then that of each add, of which the 105th finds no room, then the read's
+-- the number of a refused day, 0 for none: the pause line's first, then that of each sample put, of which the 105th finds no room, then the read's
 abbrev pub DayNumber : List ℕ → ℕ → Type 0
 DayNumber s k = (FileGiven s k × (k ≡ 0 → ⊥)) ⊎ (FileGiven s 0 × First 7 (104 < count s) (First 9 (count s < 2) (λ k. k ≡ 0)) k)
 

@@ -7,7 +7,7 @@ ghost use Rattle.refusal.specs.declared.Outcome.the-variants.{Done};
 ghost use Rattle.refusal.specs.Number.{code};
 ghost use Rattle.record.specs.Record.{across, up};
 ghost use Rattle.record.specs.Pause.{pauseLineOf, pauseSum};
-ghost use Rattle.trace.specs.Calls.{AddGives, buffers};
+ghost use Rattle.trace.specs.Calls.{PutGives, buffers};
 ghost use Rattle.text.specs.Text.{Written, decimal};
 ghost use Rattle.day.specs.Day.{count, tolerances as dayTolerances, refusedLine, countsLine, sampleLine, countedLine, pauseText, Reported};
 ghost use Rattle.day.specs.Fill.{dayTrace, Lent, AddsAll, heldLines, heldText};
@@ -49,8 +49,8 @@ fn no_cells() -> [u16; CELLS]
     [0; CELLS]
 }
 
-// Add record i of the file.
-fn add_record(
+// Put record i of the file at place i.
+fn put_record(
     trace: Trace,
     xs: &mut [i16],
     ys: &mut [i16],
@@ -59,11 +59,11 @@ fn add_record(
     i: usize,
 ) -> Changed
     requires { ⌜ (pauseLineOf (now file) .outcome ≡ Done) × (i < count (now file)) ⌝ }
-    ensures { λ r. ⌜ AddGives trace (buffers (now (xs .entry)) (now (ys .entry)) (now (table .entry))) (across (now (file .entry)) (16 * i)) (up (now (file .entry)) (16 * i)) r (buffers (now (xs .exit)) (now (ys .exit)) (now (table .exit))) ⌝ }
+    ensures { λ r. ⌜ PutGives trace (buffers (now (xs .entry)) (now (ys .entry)) (now (table .entry))) i (across (now (file .entry)) (16 * i)) (up (now (file .entry)) (16 * i)) r (buffers (now (xs .exit)) (now (ys .exit)) (now (table .exit))) ⌝ }
     ensures { λ _. ⌜ now (file .exit) ≡ now (file .entry) ⌝ }
 {
     let sample = record::decode(record::record_of(file, i));
-    trace.add(xs, ys, table, sample.across, sample.up)
+    trace.put(xs, ys, table, i, sample.across, sample.up)
 }
 
 // Add the records of the file in order, up to the first refused.
@@ -75,7 +75,7 @@ fn add_all(empty: Trace, xs: &mut [i16], ys: &mut [i16], table: &mut [u16], file
     let mut trace = empty;
     let mut i = 0;
     while i < file.len() / record::RECORD_BYTES {
-        let added = add_record(trace, xs, ys, table, file, i);
+        let added = put_record(trace, xs, ys, table, file, i);
         let o = added.outcome;
         let Outcome::Done = o else {
             return added;

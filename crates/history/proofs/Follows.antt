@@ -21,7 +21,7 @@ use Rattle.trace.proofs.Passed.{read-passed}
 use Rattle.history.specs.Run.{State, Call, Answer, Step, answered}
 use Rattle.history.specs.Run.Call.{read}
 use Rattle.history.specs.Run.Answer.{levels}
-use Rattle.history.specs.Run.Step.{starts, adds, corrects, asks, reads}
+use Rattle.history.specs.Run.Step.{starts, puts, asks, reads}
 use Rattle.history.specs.Hold.{Shown, onTrace}
 use Rattle.history.proofs.Sound.{Sound, state-is}
 
@@ -76,17 +76,14 @@ good c z = subst (Possible c) (sym z) refl
 
 pub step-number : {s e : State} {c : Call} {r : Answer} → Sound s → Step s e c r → Possible c (answered r)
 step-number {c} S (starts G t l k) = first-has (Possible c) refl (first-has (Possible c) refl (good c)) (G .number)
-step-number {s} {c} S (adds G t k) =
-    trace-has s S (Possible c) refl refl (first-has (Possible c) refl (first-has (Possible c) refl (good c))) (stored-samples s S, stored-cells s S) (G .number)
-step-number {s} {c} S (corrects G t k) =
-    trace-has s S (Possible c) refl refl (first-has (Possible c) refl (first-has (Possible c) refl (good c))) (stored-samples s S, stored-cells s S) (G .number)
+step-number {s} {c} S (puts G t k) =
+    trace-has s S (Possible c) refl refl (first-has (Possible c) refl (first-has (Possible c) refl (first-has (Possible c) refl (good c)))) (stored-samples s S, stored-cells s S) (G .number)
 step-number {s} {c} S (asks G t l k) = trace-has s S (Possible c) refl refl (first-has (Possible c) refl (good c)) (stored-samples s S) (G .number)
 step-number {s} {c} S (reads G t) = trace-has s S (Possible c) refl refl (first-has (Possible c) refl (good c)) (stored-samples s S, stored-cells s S) (G .number)
 
 -- with no level every call on a trace gives 1
 pub bare-number : {s e : State} {c : Call} {r : Answer} → s .trace .levels ≡ 0 → Step s e c r → onTrace c ≡ true → answered r ≡ 1
 bare-number z (starts G t l k) o = absurd (true≢false (sym o))
-bare-number z (adds G t k) o = first-taken (λ q. omega arith) (G .number)
-bare-number z (corrects G t k) o = first-taken (λ q. omega arith) (G .number)
+bare-number z (puts G t k) o = first-taken (λ q. omega arith) (G .number)
 bare-number z (asks G t l k) o = first-taken (λ q. omega arith) (G .number)
 bare-number z (reads G t) o = first-taken (λ q. omega arith) (G .number)

@@ -2,7 +2,7 @@
 use mathlib.Core.Path.{_≡_, refl, sym, ap, subst, _∙_}
 use mathlib.Core.Bool.{true, true≢false}
 use mathlib.Core.List.{List, [], _∷_}
-use Prim.Native.Nat.{ℕ, _+_}
+use Prim.Native.Nat.{ℕ}
 use lib.IntN.{ℤ, pos}
 use lib.ListN.{length, length-set}
 use lib.Seq.{getD-set-other}
@@ -14,14 +14,14 @@ use Rattle.trace.specs.declared.Trace.{Trace}
 use Rattle.trace.specs.declared.Started.{Started}
 use Rattle.trace.specs.declared.Changed.{Changed}
 use Rattle.trace.specs.declared.Levels.{Levels}
-use Rattle.trace.specs.Calls.{Put, holding}
+use Rattle.trace.specs.Calls.{heldWith, Put, holding}
 use Rattle.trace.proofs.Calls.{buffers-is}
-use Rattle.trace.proofs.Exists.{start-some, add-some, correct-some, ask-some, read-some}
-use Rattle.trace.proofs.Unique.{start-one, add-one, correct-one, ask-one, read-one}
+use Rattle.trace.proofs.Exists.{start-some, put-some, ask-some, read-some}
+use Rattle.trace.proofs.Unique.{start-one, put-one, ask-one, read-one}
 use Rattle.history.specs.Run.{State, Call, Answer, Step, Run, answered}
-use Rattle.history.specs.Run.Call.{start, add, correct, ask, read}
+use Rattle.history.specs.Run.Call.{start, put, ask, read}
 use Rattle.history.specs.Run.Answer.{started, changed, said, levels}
-use Rattle.history.specs.Run.Step.{starts, adds, corrects, asks, reads}
+use Rattle.history.specs.Run.Step.{starts, puts, asks, reads}
 use Rattle.history.specs.Run.Run.{none, next}
 use Rattle.history.specs.Hold.{CostsHeld, Shown, Touched, MayChange, RefusedLeaves, heldAfter, onTrace, allOnTrace}
 use Rattle.history.proofs.Sound.{Sound, state, state-is, not-put, started-sound, step-sound}
@@ -80,11 +80,9 @@ not-touched s e v n z = subst (Touched v n s) (sym z) (record {
 
 pub step-changes : {s e : State} {c : Call} {r : Answer} → Step s e c r → MayChange c s e
 step-changes (starts G t l k) = (l, k)
-step-changes {s} {e} (adds {x = x} {y = y} {r = r} G t k) =
-    by-outcome (r .outcome) (λ d. put-touched s e (s .trace .held) (s .trace .held + 1) x y r (G .done d) t k)
-    (λ w h. not-touched s e (s .trace .held) (s .trace .held + 1) (not-put (G .refused w h) t k))
-step-changes {s} {e} (corrects {v = v} {x = x} {y = y} {r = r} G t k) =
-    by-outcome (r .outcome) (λ d. put-touched s e v (s .trace .held) x y r (G .done d) t k) (λ w h. not-touched s e v (s .trace .held) (not-put (G .refused w h) t k))
+step-changes {s} {e} (puts {v = v} {x = x} {y = y} {r = r} G t k) =
+    let n = heldWith (s .trace .held) v in
+    by-outcome (r .outcome) (λ d. put-touched s e v n x y r (G .done d) t k) (λ w h. not-touched s e v n (not-put (G .refused w h) t k))
 step-changes (asks G t l k) = state-is l (buffers-is (G .lent .0) (G .lent .1) t) k
 step-changes {s} {e} (reads {r = r} G t) =
     by-outcome (r .outcome) (λ d. record { trace = t; lent = G .lent; places = G .done d .same; ranks = G .done d .other })
@@ -93,25 +91,22 @@ step-changes {s} {e} (reads {r = r} G t) =
 -- a refused call leaves everything as it was, a refused start all but the trace
 pub refused-keeps : {s e : State} {c : Call} {r : Answer} → Step s e c r → (answered r ≡ 0 → ⊥) → RefusedLeaves c s e
 refused-keeps (starts {r = r} G t l k) n = by-outcome (r .outcome) (λ d. absurd (n (ap code d))) (λ w h. (t ∙ G .refused w h, l, k))
-refused-keeps (adds {r = r} G t k) n = by-outcome (r .outcome) (λ d. absurd (n (ap code d))) (λ w h. not-put (G .refused w h) t k)
-refused-keeps (corrects {r = r} G t k) n = by-outcome (r .outcome) (λ d. absurd (n (ap code d))) (λ w h. not-put (G .refused w h) t k)
+refused-keeps (puts {r = r} G t k) n = by-outcome (r .outcome) (λ d. absurd (n (ap code d))) (λ w h. not-put (G .refused w h) t k)
 refused-keeps (asks G t l k) n = state-is l (buffers-is (G .lent .0) (G .lent .1) t) k
 refused-keeps (reads {r = r} G t) n = by-outcome (r .outcome) (λ d. absurd (n (ap code d))) (λ w h. state-is t (G .lent) (G .refused w h .kept))
 
--- only start and add change how many samples are held
+-- only start and put change how many samples are held, and of the puts an addition alone (`held-corrected`, `held-added`)
 pub step-held : {s e : State} {c : Call} {r : Answer} → Step s e c r → e .trace .held ≡ heldAfter c (answered r) (s .trace .held)
 step-held (starts {r = r} G t l k) = by-outcome (r .outcome) (λ d. rw (t ∙ G .done d) refl) (λ w h. rw (t ∙ G .refused w h) refl)
-step-held (adds {r = r} G t k) =
+step-held (puts {r = r} G t k) =
     by-outcome (r .outcome) (λ d. rw (t ∙ G .done d .trace, d) refl) (λ w h. rw (t ∙ G .refused w h .trace, h, ne-eqb (number w) 0 (numbered w)) refl)
-step-held (corrects {r = r} G t k) = by-outcome (r .outcome) (λ d. rw (t ∙ G .done d .trace) refl) (λ w h. rw (t ∙ G .refused w h .trace) refl)
 step-held (asks G t l k) = rw l refl
 step-held (reads G t) = rw t refl
 
 -- ---- the setup stays that of the last start
 changes-setup : (c : Call) (s e : State) → MayChange c s e → onTrace c ≡ true → e .trace ≡ holding (s .trace) (e .trace .held)
 changes-setup (start m N tols) s e M h = absurd (true≢false (sym h))
-changes-setup (add x y) s e M h = M .setup
-changes-setup (correct v x y) s e M h = M .setup
+changes-setup (put v x y) s e M h = M .setup
 changes-setup (ask k i j) s e M h = rw M refl
 changes-setup read s e M h = rw (M .trace) refl
 
@@ -133,8 +128,7 @@ refused-later (next p R) n h q o = bare-number (ap (λ (a : Trace). a .levels) (
 -- ---- there is a result: every call has a step from every state, and every list of calls a run
 pub step-some : (s : State) (c : Call) → (r : Answer) × (e : State) × Step s e c r
 step-some s (start m N tols) = let w = start-some m N tols in (started (w .0), state (w .0 .trace) (s .lent) (s .ranks), starts (w .1) refl refl refl)
-step-some s (add x y) = let w = add-some (s .trace) (s .lent) x y in (changed (w .0), state (w .0 .trace) (w .1) (s .ranks), adds (w .2) refl refl)
-step-some s (correct v x y) = let w = correct-some (s .trace) (s .lent) v x y in (changed (w .0), state (w .0 .trace) (w .1) (s .ranks), corrects (w .2) refl refl)
+step-some s (put v x y) = let w = put-some (s .trace) (s .lent) v x y in (changed (w .0), state (w .0 .trace) (w .1) (s .ranks), puts (w .2) refl refl)
 step-some s (ask k i j) = let w = ask-some (s .trace) (s .lent .across) (s .lent .upward) k i j in (said (w .0), s, asks (w .1) refl refl refl)
 step-some s read = let w = read-some (s .trace) (s .lent) (s .ranks) in (levels (w .0), state (s .trace) (s .lent) (w .1), reads (w .2) refl)
 
@@ -149,10 +143,8 @@ run-some s (c ∷ cs) =
 pub step-one : {s e f : State} {c : Call} {r q : Answer} → Step s e c r → Step s f c q → (r ≡ q) × (e ≡ f)
 step-one {s} {e} {f} (starts {m = m} {N = N} {tols = tols} {r = r} G t l k) (starts {r = q} H u w z) =
     let o = start-one m N tols r q G H in (ap started o, state-is (t ∙ ap (λ (r : Started). r .trace) o ∙ sym u) (l ∙ sym w) (k ∙ sym z))
-step-one {s} {e} {f} (adds {x = x} {y = y} {r = r} G t k) (adds {r = q} H u z) =
-    let o = add-one (s .trace) (s .lent) x y r q (e .lent) (f .lent) G H in (ap changed (o .0), state-is (t ∙ ap (λ (r : Changed). r .trace) (o .0) ∙ sym u) (o .1) (k ∙ sym z))
-step-one {s} {e} {f} (corrects {v = v} {x = x} {y = y} {r = r} G t k) (corrects {r = q} H u z) =
-    let o = correct-one (s .trace) (s .lent) v x y r q (e .lent) (f .lent) G H in (ap changed (o .0), state-is (t ∙ ap (λ (r : Changed). r .trace) (o .0) ∙ sym u) (o .1) (k ∙ sym z))
+step-one {s} {e} {f} (puts {v = v} {x = x} {y = y} {r = r} G t k) (puts {r = q} H u z) =
+    let o = put-one (s .trace) (s .lent) v x y r q (e .lent) (f .lent) G H in (ap changed (o .0), state-is (t ∙ ap (λ (r : Changed). r .trace) (o .0) ∙ sym u) (o .1) (k ∙ sym z))
 step-one {s} {e} {f} (asks {k = l} {i = i} {j = j} {r = r} G b t k) (asks {r = q} H d u z) =
     let o = ask-one (s .trace) (s .lent .across) (s .lent .upward) l i j r q (e .lent .across) (f .lent .across) (e .lent .upward) (f .lent .upward) G H in
     (ap said (o .0), state-is (t ∙ sym u) (buffers-is (o .1) (o .2) (b ∙ sym d)) (k ∙ sym z))

@@ -6,24 +6,21 @@ use Prim.Native.Nat.{ℕ, _+_, _-_, _≤_, _<_, zero-le}
 use native.Mathlib.Decide.{decLt}
 use native.Mathlib.Omega.{arith}
 use lib.IntN.{ℤ}
-use lib.ListN.{length, getD, set, take, replicate, length-take, List·getD-append, List·getD-eq-default}
+use lib.ListN.{length, getD, take, replicate, length-take, List·getD-append, List·getD-eq-default}
 use lib.Seq.{getD-take}
 use Rattle.refusal.proofs.Rows.{by-outcome}
 use Rattle.geometry.specs.Coordinate.{InRange}
-use Rattle.family.specs.Levels as Levels
-use Rattle.table.specs.Table.{cell}
-use Rattle.costs.specs.Costs.{Permit, Named}
-use Rattle.costs.specs.Walk.{perm, Rewritten}
-use Rattle.costs.proofs.Meaning.{added-costs, corrected-costs}
+use Rattle.costs.proofs.Meaning.{put-costs}
 use Rattle.trace.specs.declared.Trace.{Trace}
 use Rattle.trace.specs.declared.Changed.{Changed}
-use Rattle.trace.specs.Numbers.{Sized, Tolerances, AddNumber, CorrectNumber}
-use Rattle.trace.specs.Calls.{Buffers, Put, NotPut, buffers, kept}
-use Rattle.trace.proofs.Passed.{Passed, start-passed, add-passed, correct-passed}
-use Rattle.trace.proofs.Calls.{Able, add-able, correct-able, put-rewritten, buffers-is}
+use Rattle.trace.specs.Numbers.{Sized, Tolerances, PutNumber}
+use Rattle.trace.specs.Calls.{Buffers, heldWith, Put, NotPut, kept}
+use Rattle.trace.proofs.Passed.{start-passed, put-passed}
+use Rattle.trace.proofs.Held.{held-others}
+use Rattle.trace.proofs.Calls.{put-able, put-rewritten, buffers-is}
 use Rattle.history.specs.Run.{State, Call, Answer, Step}
 use Rattle.history.specs.Run.Call.{start}
-use Rattle.history.specs.Run.Step.{starts, adds, corrects, asks, reads}
+use Rattle.history.specs.Run.Step.{starts, puts, asks, reads}
 use Rattle.history.specs.Hold.{CostsHeld}
 
 -- the setup is that of a refused start, with no level and no sample, or a good one
@@ -85,16 +82,14 @@ started-sound {s} (starts {m = m} {N = N} {tols = tols} {r = r} G t l k) =
     subst Sound (sym (state-is (t ∙ G .done d) l k)) (empty-sound m N (kept m tols) (s .lent) (s .ranks) (g .0 .1) (g .0 .3) (inr (g .0, kept-tolerances (g .1)))))
     (λ w h. subst Sound (sym (state-is (t ∙ G .refused w h) l k)) (empty-sound 0 0 (replicate 16 0) (s .lent) (s .ranks) zero-le zero-le (inl refl)))
 
--- ---- add and correct
--- sample v put, where writing its cells gives the costs
-put-sound : (s e : State) (v n : ℕ) (x y : ℤ) (r : Changed) → let a = s .trace in let b = s .lent in
-    Passed a (b .across) (b .upward) → Able a b v n x y
-    → (Rewritten (a .capacity) (perm (set (b .across) v x) (set (b .upward) v y) (a .tolerances)) (Named (a .levels) v n) (b .table) (e .lent .table)
-    → Levels.Costs (Permit (set (b .across) v x) (set (b .upward) v y) (a .tolerances)) (cell (e .lent .table) (a .capacity)) (a .levels) n)
-    → Put a b v n x y r (e .lent) → e .trace ≡ r .trace → Sound e
-put-sound s e v n x y r p A costs P t =
+-- ---- put
+put-sound : (s e : State) (v : ℕ) (x y : ℤ) (r : Changed) → Sound s → PutNumber (s .trace) (s .lent .across) (s .lent .upward) (s .lent .table) v x y 0
+    → Put (s .trace) (s .lent) v (heldWith (s .trace .held) v) x y r (e .lent) → e .trace ≡ r .trace → Sound e
+put-sound s e v x y r S h P t =
     let a = s .trace in
     let b = s .lent in
+    let p = put-passed a (b .across) (b .upward) (b .table) v x y h in
+    let A = put-able a b v x y h in
     let R = A .ready in
     let z = R .sizes in
     subst Sound (sym (state-is (t ∙ P .trace) (buffers-is (P .across) (P .upward) refl) refl)) (record {
@@ -103,38 +98,16 @@ put-sound s e v n x y r p A costs P t =
       held = z .4;
       across = R .across;
       upward = R .upward;
-      costs = costs (put-rewritten A P);
-      setup = inr (p .sized, p .tolerances);
+      costs = put-costs (a .capacity) (b .across) (b .upward) (a .tolerances) x y (a .levels) v (a .held) _ (b .table) (e .lent .table) (S .few) (S .small) (S .held) (S .across) (S .upward)
+          (held-others (a .held) v (p .4)) (z .4) (R .across) (R .upward) (put-rewritten A P) (S .costs);
+      setup = inr (p .0 .sized, p .0 .tolerances);
     })
-
-module _ (s e : State) (S : Sound s) (x y : ℤ) (r : Changed) (t : e .trace ≡ r .trace) where
-  add-sound : AddNumber (s .trace) (s .lent .across) (s .lent .upward) (s .lent .table) x y 0 → Put (s .trace) (s .lent) (s .trace .held) (s .trace .held + 1) x y r (e .lent) → Sound e
-  add-sound h P =
-      let a = s .trace in
-      let b = s .lent in
-      let A = add-able a b x y h in
-      put-sound s e (a .held) (a .held + 1) x y r (add-passed a (b .across) (b .upward) (b .table) x y h .0) A
-      (λ w. added-costs (a .capacity) (b .across) (b .upward) (a .tolerances) x y (a .levels) (a .held) (b .table) (e .lent .table) (S .few) (S .small) (S .across) (S .upward)
-      (omega (arith, A .ready .sizes)) (A .ready .across) (A .ready .upward) w (S .costs))
-      P t
-
-  correct-sound : (v : ℕ) → CorrectNumber (s .trace) (s .lent .across) (s .lent .upward) (s .lent .table) v x y 0 → Put (s .trace) (s .lent) v (s .trace .held) x y r (e .lent) → Sound e
-  correct-sound v h P =
-      let a = s .trace in
-      let b = s .lent in
-      let A = correct-able a b v x y h in
-      put-sound s e v (a .held) x y r (correct-passed a (b .across) (b .upward) (b .table) v x y h .0) A
-      (λ w. corrected-costs (a .capacity) (b .across) (b .upward) (a .tolerances) x y (a .levels) (a .held) (b .table) (e .lent .table) (S .few) (S .small) (S .across) (S .upward)
-      v (S .held) (A .ready .across) (A .ready .upward) w (S .costs))
-      P t
 
 -- ---- every call
 pub step-sound : {s e : State} {c : Call} {r : Answer} → Sound s → Step s e c r → Sound e
 step-sound {s} S (starts G t l k) = started-sound {s = s} (starts G t l k)
-step-sound {s} {e} S (adds {x = x} {y = y} {r = r} G t k) =
-    by-outcome (r .outcome) (λ d. add-sound s e S x y r t (rw d at (G .number)) (G .done d)) (λ w h. subst Sound (sym (not-put (G .refused w h) t k)) S)
-step-sound {s} {e} S (corrects {v = v} {x = x} {y = y} {r = r} G t k) =
-    by-outcome (r .outcome) (λ d. correct-sound s e S x y r t v (rw d at (G .number)) (G .done d)) (λ w h. subst Sound (sym (not-put (G .refused w h) t k)) S)
+step-sound {s} {e} S (puts {v = v} {x = x} {y = y} {r = r} G t k) =
+    by-outcome (r .outcome) (λ d. put-sound s e v x y r S (rw d at (G .number)) (G .done d) t) (λ w h. subst Sound (sym (not-put (G .refused w h) t k)) S)
 step-sound S (asks G t l k) = subst Sound (sym (state-is l (buffers-is (G .lent .0) (G .lent .1) t) k)) S
 step-sound S (reads G t) = subst Sound (sym (state-is t (G .lent) refl)) (record {
   few = S .few;

@@ -2,7 +2,7 @@
 use mathlib.Core.Path.{_≡_}
 use mathlib.Core.Bool.{Bool, true, false, _&&_, cond}
 use mathlib.Core.List.{List, [], _∷_}
-use Prim.Native.Nat.{ℕ, _+_, _-_, _≤_}
+use Prim.Native.Nat.{ℕ, _-_, _≤_}
 use lib.Dec.{eqb}
 use lib.IntN.{pos}
 use lib.ListN.{length, getD}
@@ -11,9 +11,9 @@ use Rattle.table.specs.Table.{at, cell}
 use Rattle.costs.specs.Costs.{Permit, Named}
 use Rattle.readout.specs.Read.{rank}
 use Rattle.trace.specs.declared.Levels.{Levels}
-use Rattle.trace.specs.Calls.{holding, noTrace}
+use Rattle.trace.specs.Calls.{heldWith, holding, noTrace}
 use Rattle.history.specs.Run.{State, Call}
-use Rattle.history.specs.Run.Call.{start, add, correct, ask, read}
+use Rattle.history.specs.Run.Call.{start, put, ask, read}
 
 -- which stretch is permitted at which level: by the stored samples and the setup's tolerances
 abbrev pub Permitted : State → ℕ → ℕ → ℕ → Type 0
@@ -53,32 +53,28 @@ pub record Ranked (s e : State) : Type 0 where
 -- what each call may change
 abbrev pub MayChange : Call → State → State → Type 0
 MayChange (start m N tols) s e = (e .lent ≡ s .lent) × (e .ranks ≡ s .ranks)
-MayChange (add x y) s e = Touched (s .trace .held) (s .trace .held + 1) s e
-MayChange (correct v x y) s e = Touched v (s .trace .held) s e
+MayChange (put v x y) s e = Touched v (heldWith (s .trace .held) v) s e
 MayChange (ask k i j) s e = e ≡ s
 MayChange read s e = Ranked s e
 
 -- what a refused call leaves: a refused start the trace that every later call refuses, any other everything as it was
 abbrev pub RefusedLeaves : Call → State → State → Type 0
 RefusedLeaves (start m N tols) s e = (e .trace ≡ noTrace) × (e .lent ≡ s .lent) × (e .ranks ≡ s .ranks)
-RefusedLeaves (add x y) s e = e ≡ s
-RefusedLeaves (correct v x y) s e = e ≡ s
+RefusedLeaves (put v x y) s e = e ≡ s
 RefusedLeaves (ask k i j) s e = e ≡ s
 RefusedLeaves read s e = e ≡ s
 
 -- how many samples are held after a call that gives the number k, by how many were
 abbrev pub heldAfter : Call → ℕ → ℕ → ℕ
 heldAfter (start m N tols) k n = 0
-heldAfter (add x y) k n = cond (eqb k 0) (n + 1) n
-heldAfter (correct v x y) k n = n
+heldAfter (put v x y) k n = cond (eqb k 0) (heldWith n v) n
 heldAfter (ask l i j) k n = n
 heldAfter read k n = n
 
 -- a call on a trace is every one but start
 abbrev pub onTrace : Call → Bool
 onTrace (start m N tols) = false
-onTrace (add x y) = true
-onTrace (correct v x y) = true
+onTrace (put v x y) = true
 onTrace (ask k i j) = true
 onTrace read = true
 

@@ -10,7 +10,7 @@ use Rattle.trace.specs.declared.Started.{Started}
 use Rattle.trace.specs.declared.Changed.{Changed}
 use Rattle.trace.specs.declared.Asked.{Asked}
 use Rattle.trace.specs.declared.Levels.{Levels}
-use Rattle.trace.specs.Calls.{Buffers, StartGives, AddGives, CorrectGives, AskGives, ReadGives, asked}
+use Rattle.trace.specs.Calls.{Buffers, StartGives, PutGives, AskGives, ReadGives, asked}
 
 pub record State : Type 0 where
   pub trace : Trace
@@ -20,8 +20,7 @@ pub record State : Type 0 where
 -- a call with its arguments
 pub data Call : Type 0 where
   start : ℕ → ℕ → List ℕ → Call
-  add : ℤ → ℤ → Call
-  correct : ℕ → ℤ → ℤ → Call
+  put : ℕ → ℤ → ℤ → Call
   ask : ℕ → ℕ → ℕ → Call
   read : Call
 
@@ -41,8 +40,7 @@ answered (levels r) = code (r .outcome)
 -- from the state s the call and its answer lead to the state e; what a call is not lent stays
 pub data Step (s e : State) : Call → Answer → Type 0 where
   starts : {m N : ℕ} {tols : List ℕ} {r : Started} → StartGives m N tols r → e .trace ≡ r .trace → e .lent ≡ s .lent → e .ranks ≡ s .ranks → Step s e (start m N tols) (started r)
-  adds : {x y : ℤ} {r : Changed} → AddGives (s .trace) (s .lent) x y r (e .lent) → e .trace ≡ r .trace → e .ranks ≡ s .ranks → Step s e (add x y) (changed r)
-  corrects : {v : ℕ} {x y : ℤ} {r : Changed} → CorrectGives (s .trace) (s .lent) v x y r (e .lent) → e .trace ≡ r .trace → e .ranks ≡ s .ranks → Step s e (correct v x y) (changed r)
+  puts : {v : ℕ} {x y : ℤ} {r : Changed} → PutGives (s .trace) (s .lent) v x y r (e .lent) → e .trace ≡ r .trace → e .ranks ≡ s .ranks → Step s e (put v x y) (changed r)
   asks : {k i j : ℕ} {r : Asked} → AskGives (s .trace) (s .lent .across) (s .lent .upward) k i j r (e .lent .across) (e .lent .upward)
       → e .lent .table ≡ s .lent .table → e .trace ≡ s .trace → e .ranks ≡ s .ranks → Step s e (ask k i j) (said r)
   reads : {r : Levels} → ReadGives (s .trace) (s .lent) (s .ranks) r (e .lent) (e .ranks) → e .trace ≡ s .trace → Step s e read (levels r)

@@ -167,12 +167,16 @@ reached-none h = record { passed = λ l. tt; next = λ u. h }
 pub reached-as : {K L : Type 0} {rest : ℕ → Type 0} {n k : ℕ} → K ↔ L → Reached K n rest k → Reached L n rest k
 reached-as f R = record { passed = λ l. f .0 (R .passed l); next = λ q. R .next (f .1 q) }
 
--- past the next row its statement does not hold: L says K and that
-pub reached-more : {K L P : Type 0} {rest : ℕ → Type 0} {n k : ℕ} (num : ℕ) → n < num → K × (P → ⊥) ↔ L → Reached K n (First num P rest) k → Reached L num rest k
-reached-more num o f R = record {
-  passed = λ l. let p = R .passed (later-less o l) in f .0 (p, ⊎-elim (λ a. absurd (later-not o l (a .1))) (λ a. a .0) (R .next p));
-  next = λ q. let p = f .1 q in ⊎-elim (λ a. absurd (p .1 (a .0))) (λ a. a .1) (R .next (p .0));
+-- past the next row its statement does not hold
+pub reached-next : {K P : Type 0} {rest : ℕ → Type 0} {n k : ℕ} (num : ℕ) → n < num → Reached K n (First num P rest) k → Reached (K × (P → ⊥)) num rest k
+reached-next num o R = record {
+  passed = λ l. let p = R .passed (later-less o l) in (p, ⊎-elim (λ a. absurd (later-not o l (a .1))) (λ a. a .0) (R .next p));
+  next = λ p. ⊎-elim (λ a. absurd (p .1 (a .0))) (λ a. a .1) (R .next (p .0));
 }
+
+-- in other words: L says K and that
+pub reached-more : {K L P : Type 0} {rest : ℕ → Type 0} {n k : ℕ} (num : ℕ) → n < num → K × (P → ⊥) ↔ L → Reached K n (First num P rest) k → Reached L num rest k
+reached-more num o f R = reached-as f (reached-next num o R)
 
 -- past a row that refuses unless Q holds: L says K and Q
 pub reached-unless : {K L Q : Type 0} {rest : ℕ → Type 0} {n k : ℕ} (num : ℕ) → n < num → (b : Bool) → Decides Q b → K × Q ↔ L

@@ -64,7 +64,7 @@ fn start(command: &[u8; 80], trace: Trace, text: &mut [u8]) -> Told
     Told { trace, end }
 }
 
-// The answer to add and to correct: f cells n crc.
+// The answer to put: f cells n crc.
 fn changed(text: &mut [u8], answer: Changed, crc: u32) -> Told
     ensures { λ r. ⌜ r .end ≤ length (now (text .exit)) ⌝ }
 {
@@ -162,32 +162,8 @@ fn decode(command: &[u8], text: &mut [u8]) -> usize
     line::end(text, at)
 }
 
-// add x y
-fn add(
-    command: &[u8; 80],
-    steps: &[u32; 256],
-    trace: Trace,
-    xs: &mut [i16],
-    ys: &mut [i16],
-    cells: &mut [u16],
-    ranks: &[u8],
-    text: &mut [u8],
-) -> Told
-    ensures { λ r. ⌜ r .end ≤ length (now (text .exit)) ⌝ }
-{
-    if !command::is_sample(command, 0) {
-        let end = line::unknown(text);
-        return Told { trace, end };
-    }
-    let x = command::coordinate(command, 0);
-    let y = command::coordinate(command, 1);
-    let answer = trace.add(xs, ys, cells, x, y);
-    let crc = digest::of_all(steps, xs, ys, cells, ranks);
-    changed(text, answer, crc)
-}
-
-// correct v x y
-fn correct(
+// put v x y
+fn put(
     command: &[u8; 80],
     steps: &[u32; 256],
     trace: Trace,
@@ -206,7 +182,7 @@ fn correct(
     let v = command::count(command, 0);
     let x = command::coordinate(command, 1);
     let y = command::coordinate(command, 2);
-    let answer = trace.correct(xs, ys, cells, v, x, y);
+    let answer = trace.put(xs, ys, cells, v, x, y);
     let crc = digest::of_all(steps, xs, ys, cells, ranks);
     changed(text, answer, crc)
 }
@@ -231,11 +207,8 @@ pub(crate) fn carry_out(
     if operation == 3 {
         return start(command, trace, text);
     }
-    if operation == 4 {
-        return add(command, steps, trace, xs, ys, cells, ranks, text);
-    }
-    if operation == 5 {
-        return correct(command, steps, trace, xs, ys, cells, ranks, text);
+    if operation == 9 {
+        return put(command, steps, trace, xs, ys, cells, ranks, text);
     }
     let end = stay(command, steps, trace, xs, ys, cells, ranks, text);
     Told { trace, end }

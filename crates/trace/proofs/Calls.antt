@@ -1,7 +1,7 @@
 -- From what the checks answer, and what a change of a sample leaves, to what a call gives: on plain data. Assumes nothing.
 use mathlib.Core.Path.{_≡_, refl, sym, ap, _∙_}
 use mathlib.Core.List.{List}
-use Prim.Native.Nat.{ℕ, _+_, _≤_, _<_}
+use Prim.Native.Nat.{ℕ, _≤_, _<_}
 use native.Mathlib.Omega.{arith}
 use lib.IntN.{ℤ}
 use lib.ListN.{set}
@@ -15,13 +15,14 @@ use Rattle.family.proofs.Local.{Without}
 use Rattle.table.specs.Table.{cell}
 use Rattle.costs.specs.Costs.{Named}
 use Rattle.costs.specs.Walk.{perm, Rewritten}
-use Rattle.costs.proofs.Exit.{earlier}
+use Rattle.costs.proofs.Exit.{held-end}
 use Rattle.trace.specs.declared.Trace.{Trace}
 use Rattle.trace.specs.declared.Changed.{Changed}
-use Rattle.trace.specs.Numbers.{AddNumber, CorrectNumber}
-use Rattle.trace.specs.Calls.{Buffers, buffers, Put, ChangeGives}
+use Rattle.trace.specs.Numbers.{PutNumber}
+use Rattle.trace.specs.Calls.{Buffers, buffers, heldWith, Put, PutGives}
 use Rattle.trace.specs.Rows.{Ready, Changes}
-use Rattle.trace.proofs.Passed.{add-passed, correct-passed, add-ready, correct-ready}
+use Rattle.trace.proofs.Held.{held-others}
+use Rattle.trace.proofs.Passed.{put-passed, put-ready}
 use Rattle.costs.proofs.Meaning.{rewritten-cells, cells-rewritten}
 
 -- no call is both carried out and refused
@@ -37,34 +38,32 @@ pub record Able (a : Trace) (b : Buffers) (v n : ℕ) (x y : ℤ) : Type 0 where
   pub ready : Ready a (b .across) (b .upward) (b .table) v n x y
   pub fine : (k i j : ℕ) → 1 ≤ k → k ≤ a .levels → i < j → j < n → Without v i j → Fine k i j (cell (b .table) (a .capacity) k i j)
 
-pub add-able : (a : Trace) (b : Buffers) (x y : ℤ) → AddNumber a (b .across) (b .upward) (b .table) x y 0 → Able a b (a .held) (a .held + 1) x y
-add-able a b x y h = record {
-  ready = add-ready a (b .across) (b .upward) (b .table) x y h;
-  fine = λ k i j l m o d w. add-passed a (b .across) (b .upward) (b .table) x y h .1 .cells k i j l m o (earlier (a .held) i j o d w);
-}
+pub put-able : (a : Trace) (b : Buffers) (v : ℕ) (x y : ℤ) → PutNumber a (b .across) (b .upward) (b .table) v x y 0 → Able a b v (heldWith (a .held) v) x y
+put-able a b v x y h =
+    let p = put-passed a (b .across) (b .upward) (b .table) v x y h in
+    record {
+      ready = put-ready a (b .across) (b .upward) (b .table) v x y h;
+      fine = λ k i j l m o d w. p .1 .cells k i j l m o (held-end (held-others (a .held) v (p .4)) i j o d w);
+    }
 
-pub correct-able : (a : Trace) (b : Buffers) (v : ℕ) (x y : ℤ) → CorrectNumber a (b .across) (b .upward) (b .table) v x y 0 → Able a b v (a .held) x y
-correct-able a b v x y h = record {
-  ready = correct-ready a (b .across) (b .upward) (b .table) v x y h;
-  fine = λ k i j l m o d w. correct-passed a (b .across) (b .upward) (b .table) v x y h .1 .cells k i j l m o d;
-}
-
-module _ {Number : ℕ → Type 0} {a : Trace} {b : Buffers} {v n : ℕ} {x y : ℤ} where
+module _ {a : Trace} {b : Buffers} {v : ℕ} {x y : ℤ} where
   -- the checks refuse, and nothing is written
-  pub refused-gives : {o : Outcome} {why : Refusal} → Number (code o) → o ≡ Refused why → ChangeGives Number a b v n x y (record { outcome = o; trace = a; cells = 0 }) b
+  pub refused-gives : {o : Outcome} {why : Refusal} → PutNumber a (b .across) (b .upward) (b .table) v x y (code o) → o ≡ Refused why
+      → PutGives a b v x y (record { outcome = o; trace = a; cells = 0 }) b
   refused-gives h g = record {
     number = h;
     done = λ d. done-refused d g;
     refused = λ w f. record { trace = refl; lent = refl; count = refl };
   }
 
-  -- the sample is changed
-  pub changed-gives : {r : Changed} {e : Buffers} → Number 0 → Able a b v n x y
-      → Changes a (b .across) (b .upward) (b .table) v n x y r (e .across) (e .upward) (e .table) → ChangeGives Number a b v n x y r e
-  changed-gives {r} {e} h A C =
+  -- the sample is put
+  pub changed-gives : {r : Changed} {e : Buffers} → PutNumber a (b .across) (b .upward) (b .table) v x y 0
+      → Changes a (b .across) (b .upward) (b .table) v (heldWith (a .held) v) x y r (e .across) (e .upward) (e .table) → PutGives a b v x y r e
+  changed-gives {r} {e} h C =
+      let A = put-able a b v x y h in
       let R = A .ready in
       let z = R .sizes in
-      let w = rewritten-cells (a .capacity) (set (b .across) v x) (set (b .upward) v y) (a .tolerances) (a .levels) v n (b .table)
+      let w = rewritten-cells (a .capacity) (set (b .across) v x) (set (b .upward) v y) (a .tolerances) (a .levels) v (heldWith (a .held) v) (b .table)
       (z .1) (omega arith) (z .4) (R .across) (R .upward) (A .fine) (e .table) (C .cells) in
       record {
         number = rw (C .outcome) h;

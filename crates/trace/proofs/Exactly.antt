@@ -8,12 +8,12 @@ use native.Mathlib.Omega.{arith}
 use lib.IntN.{ℤ}
 use lib.ListN.{length}
 use Rattle.refusal.specs.Check.{Decides, First}
-use Rattle.refusal.proofs.Rows.{Above, above-none, above-first, reached-none, reached-row, reached-all}
+use Rattle.refusal.proofs.Rows.{Above, above-none, above-first, reached-none, reached-next, reached-row, reached-all}
 use Rattle.geometry.specs.Coordinate.{Coord}
 use Rattle.trace.specs.declared.Trace.{Trace}
-use Rattle.trace.specs.Numbers.{Sized, Tolerances, LentSamples, LentTable, StoredSamples, StoredCells, Absent, SetupNumber, TraceNumber, StartNumber, AddNumber, CorrectNumber, AskNumber, ReadNumber}
+use Rattle.trace.specs.Numbers.{Sized, Tolerances, LentSamples, LentTable, StoredSamples, StoredCells, Absent, Good, SetupNumber, TraceNumber, StartNumber, PutNumber, AskNumber, ReadNumber}
 use Rattle.trace.proofs.Decided.{lent-samples, lent-table, lent-ranks, samples-decided, stored-decided}
-use Rattle.trace.proofs.Passed.{Passed, PassedTable, past-1, past-2, past-3, past-4, samples-past, table-past, sample-past, ranks-past, add-past, correct-past, ask-past, read-past}
+use Rattle.trace.proofs.Passed.{Passed, PassedTable, past-1, past-2, past-3, past-4, samples-past, table-past, sample-past, ranks-past, put-past, ask-past, read-past}
 
 -- ---- 1 and 2, of every call
 pub record SetupRows (m N : ℕ) (tols : List ℕ) (k : ℕ) : Type 0 where
@@ -60,44 +60,29 @@ pub record StartRows (m N : ℕ) (tols : List ℕ) (k : ℕ) : Type 0 where
 pub start-rows : (m N : ℕ) (tols : List ℕ) {k : ℕ} → StartNumber m N tols k → StartRows m N tols k
 start-rows m N tols h = record { setup = setup-rows m N tols (above-none 2) h; row-0 = reached-all (past-2 m N tols h) }
 
--- ---- add
-pub record AddRows (a : Trace) (xs ys : List ℤ) (t : List ℕ) (x y : ℤ) (k : ℕ) : Type 0 where
+-- ---- put
+pub record PutRows (a : Trace) (xs ys : List ℤ) (t : List ℕ) (v : ℕ) (x y : ℤ) (k : ℕ) : Type 0 where
   pub trace : TraceRows a (LentSamples a xs ys × LentTable a t) (StoredSamples a xs ys × StoredCells a t) k
   -- a new coordinate out of range
   pub row-6 : k ≡ 6 ↔ (Passed a xs ys × PassedTable a t) × (Coord x × Coord y → ⊥)
-  -- n = N
-  pub row-7 : k ≡ 7 ↔ (Passed a xs ys × PassedTable a t × Coord x × Coord y) × (a .held ≡ a .capacity)
+  -- v = n = N
+  pub row-7 : k ≡ 7 ↔ (Passed a xs ys × PassedTable a t × Coord x × Coord y) × ((v ≡ a .held) × (a .held ≡ a .capacity))
+  -- v above n
+  pub row-8 : k ≡ 8 ↔ (Passed a xs ys × PassedTable a t × Coord x × Coord y) × (a .held < v)
   -- every check passes
-  pub row-0 : k ≡ 0 ↔ Passed a xs ys × PassedTable a t × Coord x × Coord y × (a .held < a .capacity)
+  pub row-0 : k ≡ 0 ↔ Passed a xs ys × PassedTable a t × Coord x × Coord y × (v ≤ a .held) × (v < a .capacity)
 
-pub add-rows : (a : Trace) (xs ys : List ℤ) (t : List ℕ) (x y : ℤ) {k : ℕ} → AddNumber a xs ys t x y k → AddRows a xs ys t x y k
-add-rows a xs ys t x y h =
-    let above-6 = above-first 6 7 (omega arith) (above-none 7) in
+pub put-rows : (a : Trace) (xs ys : List ℤ) (t : List ℕ) (v : ℕ) (x y : ℤ) {k : ℕ} → PutNumber a xs ys t v x y k → PutRows a xs ys t v x y k
+put-rows a xs ys t v x y h =
+    let eight = reached-row 8 (omega arith) (above-none 8) (reached-next 7 (omega arith) (sample-past a xs ys t x y h)) in
+    let above-7 : Above 7 (First 8 (a .held < v) Good) = above-first 7 8 (omega arith) (above-none 8) in
+    let above-6 = above-first 6 7 (omega arith) above-7 in
     record {
       trace = trace-rows a (lent-table a xs ys t) (stored-decided a xs ys t) (above-first 5 6 (omega arith) above-6) h;
       row-6 = reached-row 6 (omega arith) above-6 (table-past a xs ys t h);
-      row-7 = reached-row 7 (omega arith) (above-none 7) (sample-past a xs ys t x y h);
-      row-0 = reached-all (add-past a xs ys t x y h);
-    }
-
--- ---- correct
-pub record CorrectRows (a : Trace) (xs ys : List ℤ) (t : List ℕ) (v : ℕ) (x y : ℤ) (k : ℕ) : Type 0 where
-  pub trace : TraceRows a (LentSamples a xs ys × LentTable a t) (StoredSamples a xs ys × StoredCells a t) k
-  -- a new coordinate out of range
-  pub row-6 : k ≡ 6 ↔ (Passed a xs ys × PassedTable a t) × (Coord x × Coord y → ⊥)
-  -- no such sample
-  pub row-8 : k ≡ 8 ↔ (Passed a xs ys × PassedTable a t × Coord x × Coord y) × (a .held ≤ v)
-  -- every check passes
-  pub row-0 : k ≡ 0 ↔ Passed a xs ys × PassedTable a t × Coord x × Coord y × (v < a .held)
-
-pub correct-rows : (a : Trace) (xs ys : List ℤ) (t : List ℕ) (v : ℕ) (x y : ℤ) {k : ℕ} → CorrectNumber a xs ys t v x y k → CorrectRows a xs ys t v x y k
-correct-rows a xs ys t v x y h =
-    let above-6 = above-first 6 8 (omega arith) (above-none 8) in
-    record {
-      trace = trace-rows a (lent-table a xs ys t) (stored-decided a xs ys t) (above-first 5 6 (omega arith) above-6) h;
-      row-6 = reached-row 6 (omega arith) above-6 (table-past a xs ys t h);
-      row-8 = reached-row 8 (omega arith) (above-none 8) (sample-past a xs ys t x y h);
-      row-0 = reached-all (correct-past a xs ys t v x y h);
+      row-7 = reached-row 7 (omega arith) above-7 (sample-past a xs ys t x y h);
+      row-8 = (λ e. let p = eight .0 e in (p .0 .0, p .1), λ q. eight .1 ((q .0, λ e. omega (arith, q .1)), q .1));
+      row-0 = reached-all (put-past a xs ys t v x y h);
     }
 
 -- ---- ask, which is lent no table

@@ -1,7 +1,7 @@
 -- One theorem for each call: from every entry there is a result that its promise allows. Assumes nothing.
 use mathlib.Core.Path.{refl}
 use mathlib.Core.List.{List}
-use Prim.Native.Nat.{ℕ, _+_, _-_}
+use Prim.Native.Nat.{ℕ, _-_}
 use native.Mathlib.Omega.{arith}
 use lib.IntN.{ℤ}
 use lib.ListN.{length, getD, set, replicate}
@@ -25,12 +25,12 @@ use Rattle.trace.specs.declared.Changed.{Changed}
 use Rattle.trace.specs.declared.Asked.{Asked}
 use Rattle.trace.specs.declared.Asked.the-variants as Asked
 use Rattle.trace.specs.declared.Levels.{Levels}
-use Rattle.trace.specs.Numbers.{StartNumber, AddNumber, CorrectNumber, AskNumber, ReadNumber}
-use Rattle.trace.specs.Calls.{emptyTrace, noTrace, StartGives, Buffers, buffers, holding, ChangeGives, AddGives, CorrectGives, AskGives, ReadGives}
-use Rattle.trace.specs.Rows.{setupOutcome, addOutcome, correctOutcome, askOutcome, readOutcome}
-use Rattle.trace.proofs.Numbers.{start-number, add-number, correct-number, ask-number, read-number}
-use Rattle.trace.proofs.Passed.{ask-passed, read-passed, in-range}
-use Rattle.trace.proofs.Calls.{done-refused, Able, add-able, correct-able, refused-gives, changed-gives}
+use Rattle.trace.specs.Numbers.{StartNumber, PutNumber, AskNumber, ReadNumber}
+use Rattle.trace.specs.Calls.{emptyTrace, noTrace, StartGives, Buffers, buffers, heldWith, holding, PutGives, AskGives, ReadGives}
+use Rattle.trace.specs.Rows.{setupOutcome, putOutcome, askOutcome, readOutcome}
+use Rattle.trace.proofs.Numbers.{start-number, put-number, ask-number, read-number}
+use Rattle.trace.proofs.Passed.{put-ready, ask-passed, read-passed, in-range}
+use Rattle.trace.proofs.Calls.{done-refused, refused-gives, changed-gives}
 
 -- ---- start
 pub start-some : (m N : ℕ) (tols : List ℕ) → (r : Started) × StartGives m N tols r
@@ -40,30 +40,22 @@ start-some m N tols = by (setupOutcome m N tols) (start-number m N tols)
     by Done h = (record { outcome = Done; trace = emptyTrace m N tols }, record { number = h; done = λ d. refl; refused = λ w g. done-refused refl g })
     by (Refused why) h = (record { outcome = Refused why; trace = noTrace }, record { number = h; done = λ d. done-refused d refl; refused = λ w g. refl })
 
--- ---- add and correct: the outcome that the row of tests gives, and where it is Done the table after the call
-change-some : (Number : ℕ → Type 0) (a : Trace) (b : Buffers) (v n : ℕ) (x y : ℤ) → (Number 0 → Able a b v n x y) → (o : Outcome) → Number (code o)
-    → (r : Changed) × (e : Buffers) × ChangeGives Number a b v n x y r e
-change-some Number a b v n x y able (Refused why) h = (record { outcome = Refused why; trace = a; cells = 0 }, b, refused-gives h refl)
-change-some Number a b v n x y able Done h =
-    let A = able h in
-    let z = A .ready .sizes in
-    let xs = set (b .across) v x in
-    let ys = set (b .upward) v y in
-    let w = rewritten-some (a .capacity) (perm xs ys (a .tolerances)) (a .levels) v n (z .3) (z .4) (b .table) (A .ready .room) in (
-      record { outcome = Done; trace = holding a n; cells = named (a .levels) v n },
-      buffers xs ys (w .0),
-      changed-gives h A (record { outcome = refl; trace = refl; across = refl; upward = refl; cells = w .1; count = refl }),
-    )
-
-pub add-some : (a : Trace) (b : Buffers) (x y : ℤ) → (r : Changed) × (e : Buffers) × AddGives a b x y r e
-add-some a b x y =
-    change-some (AddNumber a (b .across) (b .upward) (b .table) x y) a b (a .held) (a .held + 1) x y (add-able a b x y)
-    (addOutcome a (b .across) (b .upward) (b .table) x y) (add-number a (b .across) (b .upward) (b .table) x y)
-
-pub correct-some : (a : Trace) (b : Buffers) (v : ℕ) (x y : ℤ) → (r : Changed) × (e : Buffers) × CorrectGives a b v x y r e
-correct-some a b v x y =
-    change-some (CorrectNumber a (b .across) (b .upward) (b .table) v x y) a b v (a .held) x y (correct-able a b v x y)
-    (correctOutcome a (b .across) (b .upward) (b .table) v x y) (correct-number a (b .across) (b .upward) (b .table) v x y)
+-- ---- put: the outcome that the row of tests gives, and where it is Done the table after the call
+pub put-some : (a : Trace) (b : Buffers) (v : ℕ) (x y : ℤ) → (r : Changed) × (e : Buffers) × PutGives a b v x y r e
+put-some a b v x y = by (putOutcome a (b .across) (b .upward) (b .table) v x y) (put-number a (b .across) (b .upward) (b .table) v x y)
+  where
+    by : (o : Outcome) → PutNumber a (b .across) (b .upward) (b .table) v x y (code o) → (r : Changed) × (e : Buffers) × PutGives a b v x y r e
+    by (Refused why) h = (record { outcome = Refused why; trace = a; cells = 0 }, b, refused-gives h refl)
+    by Done h =
+        let R = put-ready a (b .across) (b .upward) (b .table) v x y h in
+        let n = heldWith (a .held) v in
+        let xs = set (b .across) v x in
+        let ys = set (b .upward) v y in
+        let w = rewritten-some (a .capacity) (perm xs ys (a .tolerances)) (a .levels) v n (R .sizes .3) (R .sizes .4) (b .table) (R .room) in (
+          record { outcome = Done; trace = holding a n; cells = named (a .levels) v n },
+          buffers xs ys (w .0),
+          changed-gives h (record { outcome = refl; trace = refl; across = refl; upward = refl; cells = w .1; count = refl }),
+        )
 
 -- ---- ask
 pub ask-some : (a : Trace) (xs ys : List ℤ) (k i j : ℕ) → (r : Asked) × AskGives a xs ys k i j r xs ys

@@ -1,18 +1,32 @@
--- The cells that a call counts, by the paper's formulas. Assumes nothing.
-use mathlib.Core.Path.{_≡_, _∙_}
-use Prim.Native.Nat.{ℕ, _+_, _-_, _*_}
+-- What put gives, by which of the two it is, and the cells that it counts, by the paper's formulas. Assumes nothing.
+use mathlib.Core.Path.{_≡_, sym, ap, subst, _∙_}
+use Prim.Native.Nat.{ℕ, _+_, _-_, _*_, _<_}
+use native.Mathlib.Omega.{arith}
 use lib.IntN.{ℤ}
 use Rattle.refusal.specs.declared.Outcome.the-variants.{Done}
 use Rattle.costs.proofs.Tally.{named-formula, named-add}
 use Rattle.trace.specs.declared.Trace.{Trace}
 use Rattle.trace.specs.declared.Changed.{Changed}
-use Rattle.trace.specs.Calls.{Buffers, AddGives, CorrectGives}
+use Rattle.trace.specs.Calls.{Buffers, Put, PutGives}
+use Rattle.trace.proofs.Held.{held-corrected, held-added}
 
--- add writes m · n cells
-pub add-cells : (a : Trace) (b : Buffers) (x y : ℤ) (r : Changed) (e : Buffers) → AddGives a b x y r e → r .outcome ≡ Done → r .cells ≡ a .levels * a .held
-add-cells a b x y r e G d = G .done d .count ∙ named-add (a .levels) (a .held)
+module _ (a : Trace) (b : Buffers) (v : ℕ) (x y : ℤ) (r : Changed) (e : Buffers) (G : PutGives a b v x y r e) (d : r .outcome ≡ Done) where
+  -- below n it is a correction: sample v has new coordinates, and as many are held
+  pub put-corrects : v < a .held → Put a b v (a .held) x y r e
+  put-corrects h = subst (λ n. Put a b v n x y r e) (held-corrected (a .held) v h) (G .done d)
 
--- correct writes m · ((v + 1) · (n - v) - 1)
-pub correct-cells : (a : Trace) (b : Buffers) (v : ℕ) (x y : ℤ) (r : Changed) (e : Buffers) → CorrectGives a b v x y r e → r .outcome ≡ Done
-    → r .cells ≡ a .levels * ((v + 1) * (a .held - v) - 1)
-correct-cells a b v x y r e G d = G .done d .count ∙ named-formula (a .levels) v (a .held)
+  -- at n an addition: sample n is new, and one more is held
+  pub put-adds : v ≡ a .held → Put a b (a .held) (a .held + 1) x y r e
+  put-adds h = subst (λ u. Put a b u (a .held + 1) x y r e) h (subst (λ n. Put a b v n x y r e) (held-added (a .held) v (omega arith)) (G .done d))
+
+  -- of n′ samples after the call, m · ((v + 1) · (n′ - v) - 1) cells are written
+  pub put-cells : r .cells ≡ a .levels * ((v + 1) * (r .trace .held - v) - 1)
+  put-cells = G .done d .count ∙ named-formula (a .levels) v _ ∙ ap (λ n. a .levels * ((v + 1) * (n - v) - 1)) (sym (ap (λ (t : Trace). t .held) (G .done d .trace)))
+
+  -- which is m · ((v + 1) · (n - v) - 1) for a correction
+  pub corrected-cells : v < a .held → r .cells ≡ a .levels * ((v + 1) * (a .held - v) - 1)
+  corrected-cells h = put-corrects h .count ∙ named-formula (a .levels) v (a .held)
+
+  -- and m · n for an addition
+  pub added-cells : v ≡ a .held → r .cells ≡ a .levels * a .held
+  added-cells h = put-adds h .count ∙ named-add (a .levels) (a .held)

@@ -1,5 +1,6 @@
 pub mod Decided
 pub mod Checks
+pub mod Held
 pub mod Numbers
 pub mod Passed
 pub mod Exactly

@@ -1,23 +1,24 @@
 -- Each row of tests gives the number that the plain statements say, and these leave no choice. Assumes nothing.
-use mathlib.Core.Path.{_≡_, sym, _∙_}
+use mathlib.Core.Path.{_≡_, refl, sym, _∙_}
+use mathlib.Core.Logic.{inl, inr}
+use mathlib.Core.Bool.{Bool, true, false, cond}
 use mathlib.Core.List.{List}
 use Prim.Native.Nat.{ℕ, _≤_, _<_}
+use native.Mathlib.Numerals.{lt-of-le-of-ne}
 use native.Mathlib.Omega.{arith}
-use lib.Dec.{leb, ltb}
+use lib.Dec.{leb, ltb, eqb}
 use lib.IntN.{ℤ}
 use lib.ListN.{length}
-use borrow.Author.Tests.{leb-true, leb-false, ltb-true, ltb-false}
+use borrow.Author.Tests.{leb-true, leb-false, ltb-true, ltb-false, eqb-true, eqb-false}
 use Rattle.refusal.specs.declared.Refusal.the-variants.{Setup, Tolerance, Buffer, Held, Stored, Coordinate, Full, Missing, Few}
-use Rattle.refusal.specs.declared.Outcome.{Outcome}
 use Rattle.refusal.specs.declared.Outcome.the-variants.{Done}
 use Rattle.refusal.specs.Number.{code}
-use Rattle.refusal.specs.Check.{Decides, First}
+use Rattle.refusal.specs.Check.{unless, Decides, First}
 use Rattle.refusal.proofs.Laws.{then-done}
 use Rattle.refusal.proofs.Rows.{first-one, Row, test-row, unless-row, then-row, row-number}
-use Rattle.geometry.specs.Coordinate.{Coord}
 use Rattle.trace.specs.declared.Trace.{Trace}
-use Rattle.trace.specs.Numbers.{LentSamples, LentTable, StoredSamples, StoredCells, SetupNumber, TraceNumber, Good, StartNumber, AddNumber, CorrectNumber, AskNumber, ReadNumber}
-use Rattle.trace.specs.Rows.{lentOk, setupOutcome, lentOutcome, traceOutcome, sampleOutcome, addOutcome, correctOutcome, askOutcome, readOutcome}
+use Rattle.trace.specs.Numbers.{StoredSamples, StoredCells, SetupNumber, TraceNumber, PlaceNumber, Good, StartNumber, PutNumber, AskNumber, ReadNumber}
+use Rattle.trace.specs.Rows.{lentOk, setupOutcome, lentOutcome, traceOutcome, placeOutcome, putOutcome, askOutcome, readOutcome}
 use Rattle.trace.proofs.Decided.{setup-decided, tolerances-decided, lent-samples, lent-table, lent-ranks, samples-decided, stored-decided, sample-decided, there-decided, absent, not-both}
 use Rattle.trace.proofs.Checks.{lent-done}
 
@@ -44,29 +45,35 @@ held-within : (a : Trace) (xs ys : List ℤ) (t : List ℕ) → traceOutcome a x
 unfolding traceOutcome
 held-within a xs ys t e = lent-done a (a .levels) (length xs) (length ys) (length t) (a .held) (then-done _ _ e .0) .held
 
--- a call with a new sample: 6, and then a test of its own, which may use that no more samples are held than there is room for
-sample-row : (a : Trace) (xs ys : List ℤ) (t : List ℕ) (x y : ℤ) (o : Outcome) {S : (ℕ → Type 0) → ℕ → Type 0} → (a .held ≤ a .capacity → Row o S)
-    → Row (sampleOutcome a xs ys t x y o)
-    (λ rest. TraceNumber a (LentSamples a xs ys × LentTable a t) (StoredSamples a xs ys × StoredCells a t) (First 6 (Coord x × Coord y → ⊥) (S rest)))
-unfolding sampleOutcome
-sample-row a xs ys t x y o own =
-    then-row _ _ (trace-row a xs ys t (a .held) (lent-table a xs ys t)) (λ e. then-row _ _ (unless-row _ Coordinate (sample-decided x y)) (λ f. own (held-within a xs ys t e)))
+-- 7 and 8, where that is so
+place-row : (a : Trace) (v : ℕ) → a .held ≤ a .capacity → Row (placeOutcome a v) (PlaceNumber a v)
+unfolding placeOutcome
+place-row a v h =
+    by (eqb v n) (ltb n N) (ltb v n) (eqb-true v n) (eqb-false v n) (ltb-true n N) (ltb-false n N) (ltb-true v n) (ltb-false v n)
+  where
+    n : ℕ
+    n = a .held
+
+    N : ℕ
+    N = a .capacity
+
+    by : (next room old : Bool) → (next ≡ true → v ≡ n) → (next ≡ false → v ≡ n → ⊥) → (room ≡ true → n < N) → (room ≡ false → N ≤ n) → (old ≡ true → v < n) → (old ≡ false → n ≤ v)
+        → Row (cond next (unless room Full) (unless old Missing)) (PlaceNumber a v)
+    by true true old e d r f o g = record { gives = λ rest q k. inr (λ p. omega (arith, r refl), inr (λ l. omega (arith, e refl), k refl)) }
+    by true false old e d r f o g = record { gives = λ rest q k. inl ((e refl, omega (arith, f refl)), refl) }
+    by false room true e d r f o g = record { gives = λ rest q k. inr (λ p. d refl (p .0), inr (λ l. omega (arith, o refl), k refl)) }
+    by false room false e d r f o g = record { gives = λ rest q k. inr (λ p. d refl (p .0), inl (lt-of-le-of-ne (g refl) (λ z. d refl (sym z)), refl)) }
 
 -- ---- each call
 pub start-number : (m N : ℕ) (tols : List ℕ) → StartNumber m N tols (code (setupOutcome m N tols))
 start-number m N tols = row-number _ _ (setup-row m N tols)
 
-pub add-number : (a : Trace) (xs ys : List ℤ) (t : List ℕ) (x y : ℤ) → AddNumber a xs ys t x y (code (addOutcome a xs ys t x y))
-add-number a xs ys t x y =
+pub put-number : (a : Trace) (xs ys : List ℤ) (t : List ℕ) (v : ℕ) (x y : ℤ) → PutNumber a xs ys t v x y (code (putOutcome a xs ys t v x y))
+unfolding putOutcome
+put-number a xs ys t v x y =
     row-number _ _
-    (sample-row a xs ys t x y _
-    (λ h. test-row {P = a .held ≡ a .capacity} (ltb (a .held) (a .capacity)) Full
-    (λ b z. omega (arith, ltb-true (a .held) (a .capacity) b))
-    (λ b. omega (arith, ltb-false (a .held) (a .capacity) b))))
-
-pub correct-number : (a : Trace) (xs ys : List ℤ) (t : List ℕ) (v : ℕ) (x y : ℤ) → CorrectNumber a xs ys t v x y (code (correctOutcome a xs ys t v x y))
-correct-number a xs ys t v x y =
-    row-number _ _ (sample-row a xs ys t x y _ (λ h. test-row _ Missing (λ b l. omega (arith, ltb-true v (a .held) b)) (ltb-false v (a .held))))
+    (then-row _ _ (trace-row a xs ys t (a .held) (lent-table a xs ys t))
+    (λ e. then-row _ _ (unless-row _ Coordinate (sample-decided x y)) (λ f. place-row a v (held-within a xs ys t e))))
 
 pub ask-number : (a : Trace) (xs ys : List ℤ) (k i j : ℕ) → AskNumber a xs ys k i j (code (askOutcome a xs ys k i j))
 unfolding askOutcome
@@ -97,11 +104,8 @@ trace-one a Lent Saved rest one =
 pub start-number-one : (m N : ℕ) (tols : List ℕ) (j k : ℕ) → StartNumber m N tols j → StartNumber m N tols k → j ≡ k
 start-number-one m N tols = setup-one m N tols Good good-one
 
-pub add-number-one : (a : Trace) (xs ys : List ℤ) (t : List ℕ) (x y : ℤ) (j k : ℕ) → AddNumber a xs ys t x y j → AddNumber a xs ys t x y k → j ≡ k
-add-number-one a xs ys t x y = trace-one a _ _ _ (first-one 6 _ _ (first-one 7 _ Good good-one))
-
-pub correct-number-one : (a : Trace) (xs ys : List ℤ) (t : List ℕ) (v : ℕ) (x y : ℤ) (j k : ℕ) → CorrectNumber a xs ys t v x y j → CorrectNumber a xs ys t v x y k → j ≡ k
-correct-number-one a xs ys t v x y = trace-one a _ _ _ (first-one 6 _ _ (first-one 8 _ Good good-one))
+pub put-number-one : (a : Trace) (xs ys : List ℤ) (t : List ℕ) (v : ℕ) (x y : ℤ) (j k : ℕ) → PutNumber a xs ys t v x y j → PutNumber a xs ys t v x y k → j ≡ k
+put-number-one a xs ys t v x y = trace-one a _ _ _ (first-one 6 _ _ (first-one 7 _ _ (first-one 8 _ Good good-one)))
 
 pub ask-number-one : (a : Trace) (xs ys : List ℤ) (l i j : ℕ) (p q : ℕ) → AskNumber a xs ys l i j p → AskNumber a xs ys l i j q → p ≡ q
 ask-number-one a xs ys l i j = trace-one a _ _ _ (first-one 8 _ Good good-one)

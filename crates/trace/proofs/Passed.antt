@@ -3,8 +3,8 @@ use mathlib.Core.Path.{_≡_, refl}
 use mathlib.Core.Logic.{inl}
 use mathlib.Core.Bool.{Bool}
 use mathlib.Core.List.{List}
-use Prim.Native.Nat.{ℕ, _+_, _≤_, _<_}
-use native.Mathlib.Nat.{le-trans, lt-of-not-le, not-le-of-lt}
+use Prim.Native.Nat.{ℕ, _≤_, _<_}
+use native.Mathlib.Nat.{le-trans, lt-of-not-le}
 use native.Mathlib.Numerals.{lt-of-le-of-ne}
 use native.Mathlib.Decide.{ℕ-discrete}
 use native.Mathlib.Omega.{arith}
@@ -12,14 +12,16 @@ use lib.IntN.{ℤ, pos}
 use lib.ListN.{length, length-set, getD, set}
 use lib.Seq.{getD-set-same, getD-set-other}
 use Rattle.refusal.specs.Check.{Decides, First}
-use Rattle.refusal.proofs.Rows.{Reached, reached-none, reached-as, reached-more, reached-unless}
+use Rattle.refusal.proofs.Rows.{Reached, reached-none, reached-as, reached-next, reached-more, reached-unless}
 use Rattle.geometry.specs.Coordinate.{Coord, InRange}
 use Rattle.costs.specs.Walk.{Rising}
-use Rattle.costs.proofs.Exit.{added-steps, corrected-steps}
+use Rattle.costs.proofs.Exit.{put-steps}
 use Rattle.trace.specs.declared.Trace.{Trace}
-use Rattle.trace.specs.Numbers.{Sized, Tolerances, LentSamples, LentTable, StoredSamples, StoredCells, Good, SetupNumber, TraceNumber, StartNumber, AddNumber, CorrectNumber, AskNumber, ReadNumber}
+use Rattle.trace.specs.Numbers.{Sized, Tolerances, LentSamples, LentTable, StoredSamples, StoredCells, Good, SetupNumber, TraceNumber, StartNumber, PutNumber, AskNumber, ReadNumber}
+use Rattle.trace.specs.Calls.{heldWith}
 use Rattle.trace.specs.Rows.{Ready}
 use Rattle.trace.proofs.Decided.{setup-decided, tolerances-decided, lent-samples, lent-table, lent-ranks, samples-decided, stored-decided, sample-decided, not-both, there}
+use Rattle.trace.proofs.Held.{held-there, held-room, held-others}
 
 -- checks 1 to 5 of the setup and the coordinates
 pub record Passed (a : Trace) (xs ys : List ℤ) : Type 0 where
@@ -80,17 +82,18 @@ module _ (a : Trace) (xs ys : List ℤ) where
     sample-past x y h =
         reached-unless 6 (omega arith) _ (sample-decided x y) (λ p. (p .0 .0, p .0 .1, p .1 .0, p .1 .1), λ q. ((q .0, q .1), (q .2, q .3))) (table-past h)
 
-    pub add-past : {k : ℕ} (x y : ℤ) → AddNumber a xs ys t x y k → Reached (Passed a xs ys × PassedTable a t × Coord x × Coord y × (a .held < a .capacity)) 7 Good k
-    add-past x y h =
-        reached-more 7 (omega arith)
-        (λ p. (p .0 .0, p .0 .1, p .0 .2, p .0 .3, lt-of-le-of-ne (p .0 .0 .held) (p .1)), λ q. ((q .0, q .1, q .2, q .3), λ e. omega (arith, q .4)))
-        (sample-past x y h)
-
-    pub correct-past : {k : ℕ} (v : ℕ) (x y : ℤ) → CorrectNumber a xs ys t v x y k → Reached (Passed a xs ys × PassedTable a t × Coord x × Coord y × (v < a .held)) 8 Good k
-    correct-past v x y h =
-        reached-more 8 (omega arith)
-        (λ p. (p .0 .0, p .0 .1, p .0 .2, p .0 .3, lt-of-not-le (p .1)), λ q. ((q .0, q .1, q .2, q .3), not-le-of-lt (q .4)))
-        (sample-past x y h)
+    -- past 7 and 8 there is a place v
+    pub put-past : {k : ℕ} (v : ℕ) (x y : ℤ) → PutNumber a xs ys t v x y k
+        → Reached (Passed a xs ys × PassedTable a t × Coord x × Coord y × (v ≤ a .held) × (v < a .capacity)) 8 Good k
+    put-past v x y h =
+        reached-more 8 (omega arith) (
+          λ p.
+              let P = p .0 .0 in
+              let o : v ≤ a .held = omega (arith, lt-of-not-le (p .1)) in
+              (P .0, P .1, P .2, P .3, o, lt-of-le-of-ne (le-trans o (P .0 .held)) (λ e. p .0 .1 (omega (arith, P .0 .held), omega (arith, P .0 .held)))),
+          λ q. (((q .0, q .1, q .2, q .3), λ e. omega (arith, q .5)), λ l. omega (arith, q .4)),
+        )
+        (reached-next 7 (omega arith) (sample-past x y h))
 
     pub ranks-past : {k : ℕ} (ranks : List ℕ) → ReadNumber a xs ys t ranks k → Reached (Passed a xs ys × PassedTable a t × (a .held ≤ length ranks)) 5 (First 9 (a .held < 2) Good) k
     ranks-past ranks h =
@@ -108,13 +111,9 @@ module _ (a : Trace) (xs ys : List ℤ) where
 pub start-passed : (m N : ℕ) (tols : List ℕ) → StartNumber m N tols 0 → Sized m N × Tolerances m tols
 start-passed m N tols h = past-2 m N tols {rest = Good} h .passed (inl refl)
 
-pub add-passed : (a : Trace) (xs ys : List ℤ) (t : List ℕ) (x y : ℤ) → AddNumber a xs ys t x y 0
-    → Passed a xs ys × PassedTable a t × Coord x × Coord y × (a .held < a .capacity)
-add-passed a xs ys t x y h = add-past a xs ys t x y h .passed (inl refl)
-
-pub correct-passed : (a : Trace) (xs ys : List ℤ) (t : List ℕ) (v : ℕ) (x y : ℤ) → CorrectNumber a xs ys t v x y 0
-    → Passed a xs ys × PassedTable a t × Coord x × Coord y × (v < a .held)
-correct-passed a xs ys t v x y h = correct-past a xs ys t v x y h .passed (inl refl)
+pub put-passed : (a : Trace) (xs ys : List ℤ) (t : List ℕ) (v : ℕ) (x y : ℤ) → PutNumber a xs ys t v x y 0
+    → Passed a xs ys × PassedTable a t × Coord x × Coord y × (v ≤ a .held) × (v < a .capacity)
+put-passed a xs ys t v x y h = put-past a xs ys t v x y h .passed (inl refl)
 
 pub ask-passed : (a : Trace) (xs ys : List ℤ) (k i j : ℕ) → AskNumber a xs ys k i j 0 → Passed a xs ys × (i < j) × (j < a .held) × (1 ≤ k) × (k ≤ a .levels)
 ask-passed a xs ys k i j h = ask-past a xs ys k i j h .passed (inl refl)
@@ -145,29 +144,19 @@ put-range xs v n x o h c others = record { held = rw (length-set xs v x) h; each
     ]
 
 -- what a change of a sample asks
-pub add-ready : (a : Trace) (xs ys : List ℤ) (t : List ℕ) (x y : ℤ) → AddNumber a xs ys t x y 0 → Ready a xs ys t (a .held) (a .held + 1) x y
-add-ready a xs ys t x y h =
-    let p = add-passed a xs ys t x y h in
+pub put-ready : (a : Trace) (xs ys : List ℤ) (t : List ℕ) (v : ℕ) (x y : ℤ) → PutNumber a xs ys t v x y 0 → Ready a xs ys t v (heldWith (a .held) v) x y
+put-ready a xs ys t v x y h =
+    let p = put-passed a xs ys t v x y h in
     let P = p .0 in
+    let n = heldWith (a .held) v in
+    let there = held-there (a .held) v (p .4) .0 in
+    let room = held-room (a .held) v (a .capacity) (P .held) (p .4) (p .5) in
+    let others = held-others (a .held) v (p .4) in
     record {
-      sizes = (P .sized .0, P .sized .1, P .sized .3, omega arith, omega (arith, p .4));
+      sizes = (P .sized .0, P .sized .1, P .sized .3, there, room);
       rising = rising (P .tolerances);
-      across = put-range xs (a .held) (a .held + 1) x (omega arith) (omega (arith, p .4, P .lent .0)) (p .2) (λ q l d. P .stored q (lt-of-le-of-ne (omega arith) d) .0);
-      upward = put-range ys (a .held) (a .held + 1) y (omega arith) (omega (arith, p .4, P .lent .1)) (p .3) (λ q l d. P .stored q (lt-of-le-of-ne (omega arith) d) .1);
+      across = put-range xs v n x there (le-trans room (P .lent .0)) (p .2) (λ q l d. P .stored q (others q l d) .0);
+      upward = put-range ys v n y there (le-trans room (P .lent .1)) (p .3) (λ q l d. P .stored q (others q l d) .1);
       room = p .1 .room;
-      steps = added-steps (a .capacity) (a .levels) (a .held) t (p .1 .cells);
-    }
-
-pub correct-ready : (a : Trace) (xs ys : List ℤ) (t : List ℕ) (v : ℕ) (x y : ℤ) → CorrectNumber a xs ys t v x y 0 → Ready a xs ys t v (a .held) x y
-correct-ready a xs ys t v x y h =
-    let p = correct-passed a xs ys t v x y h in
-    let P = p .0 in
-    let R = in-range P in
-    record {
-      sizes = (P .sized .0, P .sized .1, P .sized .3, p .4, P .held);
-      rising = rising (P .tolerances);
-      across = put-range xs v (a .held) x (p .4) (R .0 .held) (p .2) (λ q l d. P .stored q l .0);
-      upward = put-range ys v (a .held) y (p .4) (R .1 .held) (p .3) (λ q l d. P .stored q l .1);
-      room = p .1 .room;
-      steps = corrected-steps (a .capacity) (a .levels) (a .held) t (p .1 .cells) v;
+      steps = put-steps (a .capacity) (a .levels) v (a .held) n others t (p .1 .cells);
     }

@@ -2,7 +2,7 @@
 use mathlib.Core.Path.{_≡_, refl, sym, ap, _∙_}
 use mathlib.Core.Logic.{_↔_}
 use mathlib.Core.List.{List}
-use Prim.Native.Nat.{ℕ, _+_, _-_}
+use Prim.Native.Nat.{ℕ, _-_}
 use native.Mathlib.Omega.{arith}
 use lib.IntN.{ℤ}
 use lib.ListN.{getD}
@@ -21,13 +21,13 @@ use Rattle.trace.specs.declared.Changed.{Changed}
 use Rattle.trace.specs.declared.Asked.{Asked}
 use Rattle.trace.specs.declared.Asked.the-variants as Asked
 use Rattle.trace.specs.declared.Levels.{Levels}
-use Rattle.trace.specs.Numbers.{StartNumber, AddNumber, CorrectNumber, ReadNumber}
-use Rattle.trace.specs.Calls.{StartGives, Buffers, Put, ChangeGives, AddGives, CorrectGives, asked, Says, AskGives, ReadGives}
-use Rattle.trace.proofs.Numbers.{start-number-one, add-number-one, correct-number-one, ask-number-one, read-number-one}
+use Rattle.trace.specs.Numbers.{StartNumber, PutNumber, ReadNumber}
+use Rattle.trace.specs.Calls.{StartGives, Buffers, Put, PutGives, asked, Says, AskGives, ReadGives}
+use Rattle.trace.proofs.Numbers.{start-number-one, put-number-one, ask-number-one, read-number-one}
 use Rattle.trace.proofs.Passed.{read-passed}
 use Rattle.costs.proofs.Exit.{rewritten-unique}
 use Rattle.readout.proofs.Meaning.{ranks-one}
-use Rattle.trace.proofs.Calls.{Able, add-able, correct-able, put-rewritten, buffers-is}
+use Rattle.trace.proofs.Calls.{Able, put-able, put-rewritten, buffers-is}
 
 -- two outcomes with a number that one row leaves no choice of are equal: both Done, or both one refusal
 pub by-number : {A : Type 0} (Number : ℕ → Type 0) → ((j k : ℕ) → Number j → Number k → j ≡ k) → (o p : Outcome) → Number (code o) → Number (code p)
@@ -46,44 +46,34 @@ start-one m N tols r q A B =
     same : r .outcome ≡ q .outcome → r .trace ≡ q .trace → r ≡ q
     same e f = let h : _≡_ {A = Started} (record { outcome = r .outcome; trace = r .trace }) (record { outcome = q .outcome; trace = q .trace }) = cc in h
 
--- ---- add and correct
+-- ---- put
 -- answers are equal where their parts are
 changed-same : {r q : Changed} → r .outcome ≡ q .outcome → r .trace ≡ q .trace → r .cells ≡ q .cells → r ≡ q
 changed-same {r} {q} e f g =
     let h : _≡_ {A = Changed} (record { outcome = r .outcome; trace = r .trace; cells = r .cells }) (record { outcome = q .outcome; trace = q .trace; cells = q .cells }) = cc in
     h
 
-module _ (Number : ℕ → Type 0) (one : (j k : ℕ) → Number j → Number k → j ≡ k) (a : Trace) (b : Buffers) (v n : ℕ) (x y : ℤ) (able : Number 0 → Able a b v n x y) where
-  -- the tables that one change of a sample may leave
-  table-one : {r q : Changed} {e f : Buffers} → Able a b v n x y → Put a b v n x y r e → Put a b v n x y q f → e .table ≡ f .table
-  table-one A P Q = let z = A .ready .sizes in rewritten-unique (a .capacity) _ (a .levels) v n (z .3) (z .4) (b .table) _ _ (put-rewritten A P) (put-rewritten A Q)
+-- the tables that one change of a sample may leave
+table-one : (a : Trace) (b : Buffers) (v n : ℕ) (x y : ℤ) {r q : Changed} {e f : Buffers} → Able a b v n x y → Put a b v n x y r e → Put a b v n x y q f → e .table ≡ f .table
+table-one a b v n x y A P Q = let z = A .ready .sizes in rewritten-unique (a .capacity) _ (a .levels) v n (z .3) (z .4) (b .table) _ _ (put-rewritten A P) (put-rewritten A Q)
 
-  changed-one : (r q : Changed) (e f : Buffers) → ChangeGives Number a b v n x y r e → ChangeGives Number a b v n x y q f → (r ≡ q) × (e ≡ f)
-  changed-one r q e f A B = by-number Number one (r .outcome) (q .outcome) (A .number) (B .number) done refused
-    where
-      done : r .outcome ≡ q .outcome → r .outcome ≡ Done → q .outcome ≡ Done → (r ≡ q) × (e ≡ f)
-      done o h g =
-          let P = A .done h in
-          let Q = B .done g in (
-            changed-same o (P .trace ∙ sym (Q .trace)) (P .count ∙ sym (Q .count)),
-            buffers-is (P .across ∙ sym (Q .across)) (P .upward ∙ sym (Q .upward)) (table-one (able (rw h at (A .number))) P Q),
-          )
+pub put-one : (a : Trace) (b : Buffers) (v : ℕ) (x y : ℤ) (r q : Changed) (e f : Buffers) → PutGives a b v x y r e → PutGives a b v x y q f → (r ≡ q) × (e ≡ f)
+put-one a b v x y r q e f A B =
+    by-number (PutNumber a (b .across) (b .upward) (b .table) v x y) (put-number-one a (b .across) (b .upward) (b .table) v x y) (r .outcome) (q .outcome) (A .number) (B .number) done refused
+  where
+    done : r .outcome ≡ q .outcome → r .outcome ≡ Done → q .outcome ≡ Done → (r ≡ q) × (e ≡ f)
+    done o h g =
+        let P = A .done h in
+        let Q = B .done g in (
+          changed-same o (P .trace ∙ sym (Q .trace)) (P .count ∙ sym (Q .count)),
+          buffers-is (P .across ∙ sym (Q .across)) (P .upward ∙ sym (Q .upward)) (table-one a b v _ x y (put-able a b v x y (rw h at (A .number))) P Q),
+        )
 
-      refused : r .outcome ≡ q .outcome → (why : Refusal) → r .outcome ≡ Refused why → q .outcome ≡ Refused why → (r ≡ q) × (e ≡ f)
-      refused o w h g =
-          let P = A .refused w h in
-          let Q = B .refused w g in
-          (changed-same o (P .trace ∙ sym (Q .trace)) (P .count ∙ sym (Q .count)), P .lent ∙ sym (Q .lent))
-
-pub add-one : (a : Trace) (b : Buffers) (x y : ℤ) (r q : Changed) (e f : Buffers) → AddGives a b x y r e → AddGives a b x y q f → (r ≡ q) × (e ≡ f)
-add-one a b x y r q e f A B =
-    changed-one (AddNumber a (b .across) (b .upward) (b .table) x y) (add-number-one a (b .across) (b .upward) (b .table) x y) a b (a .held) (a .held + 1) x y (add-able a b x y)
-    r q e f A B
-
-pub correct-one : (a : Trace) (b : Buffers) (v : ℕ) (x y : ℤ) (r q : Changed) (e f : Buffers) → CorrectGives a b v x y r e → CorrectGives a b v x y q f → (r ≡ q) × (e ≡ f)
-correct-one a b v x y r q e f A B =
-    changed-one (CorrectNumber a (b .across) (b .upward) (b .table) v x y) (correct-number-one a (b .across) (b .upward) (b .table) v x y) a b v (a .held) x y (correct-able a b v x y)
-    r q e f A B
+    refused : r .outcome ≡ q .outcome → (why : Refusal) → r .outcome ≡ Refused why → q .outcome ≡ Refused why → (r ≡ q) × (e ≡ f)
+    refused o w h g =
+        let P = A .refused w h in
+        let Q = B .refused w g in
+        (changed-same o (P .trace ∙ sym (Q .trace)) (P .count ∙ sym (Q .count)), P .lent ∙ sym (Q .lent))
 
 -- ---- ask
 -- two answers about one stretch, with one number

@@ -1,6 +1,6 @@
 -- Nothing else is read: entries that are alike give answers that are alike. Assumes nothing.
 use mathlib.Core.Path.{_≡_, refl, sym, subst, _∙_}
-use mathlib.Core.Logic.{_↔_, ⊎-elim}
+use mathlib.Core.Logic.{_↔_}
 use mathlib.Core.Bool.{Bool}
 use mathlib.Core.List.{List}
 use Prim.Native.Nat.{ℕ, _+_, _-_, _≤_, _<_}
@@ -20,7 +20,7 @@ use Rattle.family.proofs.Local.{Without, value-same, put-unique}
 use Rattle.table.specs.Table.{cell}
 use Rattle.costs.specs.Costs.{Named}
 use Rattle.costs.specs.Walk.{perm, Rewritten}
-use Rattle.costs.proofs.Exit.{rewritten-kept}
+use Rattle.costs.proofs.Exit.{Others, held-end, rewritten-kept}
 use Rattle.readout.proofs.Unique.{read-alike}
 use Rattle.readout.proofs.Meaning.{ranks-read}
 use Rattle.trace.specs.declared.Trace.{Trace}
@@ -28,12 +28,13 @@ use Rattle.trace.specs.declared.Changed.{Changed}
 use Rattle.trace.specs.declared.Asked.{Asked}
 use Rattle.trace.specs.declared.Asked.the-variants as Asked
 use Rattle.trace.specs.declared.Levels.{Levels}
-use Rattle.trace.specs.Numbers.{Tolerances, LentSamples, LentTable, StoredSamples, StoredCells, TraceNumber, AddNumber, CorrectNumber, ReadNumber}
-use Rattle.trace.specs.Calls.{Buffers, Put, ChangeGives, AddGives, CorrectGives, asked, Says, AskGives, ReadGives}
+use Rattle.trace.specs.Numbers.{Tolerances, LentSamples, LentTable, StoredSamples, StoredCells, TraceNumber, PutNumber, ReadNumber}
+use Rattle.trace.specs.Calls.{Buffers, heldWith, Put, PutGives, asked, Says, AskGives, ReadGives}
 use Rattle.trace.specs.Alike.{AlikeTraces, AlikeSamples, AlikeCells, AlikeBuffers, AlikeChanges}
-use Rattle.trace.proofs.Numbers.{add-number-one, correct-number-one, ask-number-one, read-number-one}
-use Rattle.trace.proofs.Passed.{ask-passed, read-passed}
-use Rattle.trace.proofs.Calls.{done-refused, Able, add-able, correct-able, put-rewritten}
+use Rattle.trace.proofs.Numbers.{put-number-one, ask-number-one, read-number-one}
+use Rattle.trace.proofs.Held.{held-others}
+use Rattle.trace.proofs.Passed.{put-passed, ask-passed, read-passed}
+use Rattle.trace.proofs.Calls.{done-refused, Able, put-able, put-rewritten}
 use Rattle.trace.proofs.Unique.{by-number, says-one, levels-same}
 
 -- ---- a setup that is alike is the same but for its tolerances
@@ -108,9 +109,9 @@ module _ {m n : ℕ} {xs ys us ws : List ℤ} (tols tols′ : List ℕ) (agree :
   unfolding perm
   perm-alike = rw (agree (k - 1) (omega arith)) (permits-same xs ys us ws i j (getD tols′ (k - 1) 0) (samples-same i j h X) (samples-same i j h Y))
 
--- ---- add and correct
+-- ---- put
 -- a sample put at v, where all others were among the n held
-put-alike : {n o v : ℕ} {xs us : List ℤ} (x : ℤ) → AlikeSamples n xs us → v < length xs → ((q : ℕ) → q < o → (q ≡ v → ⊥) → q < n) → AlikeSamples o (set xs v x) (set us v x)
+put-alike : {n o v : ℕ} {xs us : List ℤ} (x : ℤ) → AlikeSamples n xs us → v < length xs → Others v n o → AlikeSamples o (set xs v x) (set us v x)
 put-alike {v = v} {xs = xs} {us = us} x X h held = record {
   length = length-set xs v x ∙ X .length ∙ sym (length-set us v x);
   each = λ q l. elim (ℕ-discrete q v) [
@@ -131,17 +132,15 @@ rewritten-alike N perm perm′ m v n room t u e f perms found W X =
     (λ k i j a b o h x y. W .named k i j (a, b, x, y, o, h))
     (λ k i j a b o h x y. X .named k i j (a, b, x, y, o, h) ∙ value-same perm′ perm (cell f N) (cell f N) k i j o (sym (perms k i j a b o h)) (λ l p q z s c d g. refl))
 
--- both calls: of n samples after the call, all but v were held before
-module _ (a : Trace) (tols : List ℕ) (agree : Agree (a .levels) (a .tolerances) tols) (b d : Buffers) (B : AlikeBuffers a b d) (Number Number′ : ℕ → Type 0)
-    (carried : (k : ℕ) → Number k → Number′ k) (one : (j k : ℕ) → Number′ j → Number′ k → j ≡ k) (v n : ℕ) (x y : ℤ)
-    (able : Number 0 → Able a b v n x y) (able′ : Number′ 0 → Able (tuned a tols) d v n x y) (held : (q : ℕ) → q < n → (q ≡ v → ⊥) → q < a .held) where
-  put-unread : (r q : Changed) (e f : Buffers) → Able a b v n x y → Able (tuned a tols) d v n x y → Put a b v n x y r e → Put (tuned a tols) d v n x y q f
+-- of n samples after the call, all but v were held before
+module _ (a : Trace) (tols : List ℕ) (agree : Agree (a .levels) (a .tolerances) tols) (b d : Buffers) (B : AlikeBuffers a b d) (v : ℕ) (x y : ℤ) where
+  changed-alike : (n : ℕ) → Others v (a .held) n → (r q : Changed) (e f : Buffers) → Able a b v n x y → Able (tuned a tols) d v n x y → Put a b v n x y r e → Put (tuned a tols) d v n x y q f
       → r .outcome ≡ q .outcome → AlikeChanges r q e f
-  put-unread r q e f A C P Q o =
+  changed-alike n others r q e f A C P Q o =
       let R = A .ready in
       let z = R .sizes in
-      let X = put-alike x (B .across) (omega (arith, R .across .held, length-set (b .across) v x)) held in
-      let Y = put-alike y (B .upward) (omega (arith, R .upward .held, length-set (b .upward) v y)) held in
+      let X = put-alike x (B .across) (omega (arith, R .across .held, length-set (b .across) v x)) others in
+      let Y = put-alike y (B .upward) (omega (arith, R .upward .held, length-set (b .upward) v y)) others in
       record {
         outcome = o;
         cells = P .count ∙ sym (Q .count);
@@ -153,17 +152,22 @@ module _ (a : Trace) (tols : List ℕ) (agree : Agree (a .levels) (a .tolerances
             length = P .cells .same ∙ B .table .length ∙ sym (Q .cells .same);
             each = rewritten-alike (a .capacity) _ _ (a .levels) v n (z .4) (b .table) (d .table) (e .table) (f .table)
                 (λ k i j l m s t. perm-alike (a .tolerances) tols agree X Y k i j l m t)
-                (λ k i j l m s t w. B .table .each k i j l m s (held j t (λ g. ⊎-elim (λ u. omega arith) (λ u. omega arith) w)))
+                (λ k i j l m s t w. B .table .each k i j l m s (held-end others i j s t w))
                 (put-rewritten A P) (put-rewritten C Q);
           };
         });
       }
 
-  change-unread : (r q : Changed) (e f : Buffers) → ChangeGives Number a b v n x y r e → ChangeGives Number′ (tuned a tols) d v n x y q f → AlikeChanges r q e f
-  change-unread r q e f G H = by-number Number′ one (r .outcome) (q .outcome) (carried _ (G .number)) (H .number) done refused
+  put-tuned : (r q : Changed) (e f : Buffers) → PutGives a b v x y r e → PutGives (tuned a tols) d v x y q f → AlikeChanges r q e f
+  put-tuned r q e f G H =
+      by-number (PutNumber (tuned a tols) (d .across) (d .upward) (d .table) v x y) (put-number-one (tuned a tols) (d .across) (d .upward) (d .table) v x y) (r .outcome) (q .outcome)
+      (change-carried a tols agree B (G .number)) (H .number) done refused
     where
       done : r .outcome ≡ q .outcome → r .outcome ≡ Done → q .outcome ≡ Done → AlikeChanges r q e f
-      done o h g = put-unread r q e f (able (rw h at (G .number))) (able′ (rw g at (H .number))) (G .done h) (H .done g) o
+      done o h g =
+          let p = put-passed a (b .across) (b .upward) (b .table) v x y (rw h at (G .number)) in
+          changed-alike (heldWith (a .held) v) (held-others (a .held) v (p .4)) r q e f
+          (put-able a b v x y (rw h at (G .number))) (put-able (tuned a tols) d v x y (rw g at (H .number))) (G .done h) (H .done g) o
 
       refused : r .outcome ≡ q .outcome → (why : Refusal) → r .outcome ≡ Refused why → q .outcome ≡ Refused why → AlikeChanges r q e f
       refused o w h g =
@@ -176,23 +180,10 @@ module _ (a : Trace) (tols : List ℕ) (agree : Agree (a .levels) (a .tolerances
             lent = rw (P .trace, P .lent, Q .lent) B;
           }
 
-pub add-unread : (a c : Trace) (b d : Buffers) (x y : ℤ) (r q : Changed) (e f : Buffers) → AlikeTraces a c → AlikeBuffers a b d
-    → AddGives a b x y r e → AddGives c d x y q f → AlikeChanges r q e f
-add-unread a c b d x y r q e f A B G H =
-    let s = c .tolerances in
-    change-unread a s (A .tolerances) b d B (AddNumber a (b .across) (b .upward) (b .table) x y) (AddNumber (tuned a s) (d .across) (d .upward) (d .table) x y)
-    (λ k h. change-carried a s (A .tolerances) B h) (add-number-one (tuned a s) (d .across) (d .upward) (d .table) x y) (a .held) (a .held + 1) x y
-    (add-able a b x y) (add-able (tuned a s) d x y) (λ q l z. omega arith)
-    r q e f G (subst (λ z. AddGives z d x y q f) (tuned-same A) H)
-
-pub correct-unread : (a c : Trace) (b d : Buffers) (v : ℕ) (x y : ℤ) (r q : Changed) (e f : Buffers) → AlikeTraces a c → AlikeBuffers a b d
-    → CorrectGives a b v x y r e → CorrectGives c d v x y q f → AlikeChanges r q e f
-correct-unread a c b d v x y r q e f A B G H =
-    let s = c .tolerances in
-    change-unread a s (A .tolerances) b d B (CorrectNumber a (b .across) (b .upward) (b .table) v x y) (CorrectNumber (tuned a s) (d .across) (d .upward) (d .table) v x y)
-    (λ k h. change-carried a s (A .tolerances) B h) (correct-number-one (tuned a s) (d .across) (d .upward) (d .table) v x y) v (a .held) x y
-    (correct-able a b v x y) (correct-able (tuned a s) d v x y) (λ q l z. l)
-    r q e f G (subst (λ z. CorrectGives z d v x y q f) (tuned-same A) H)
+pub put-unread : (a c : Trace) (b d : Buffers) (v : ℕ) (x y : ℤ) (r q : Changed) (e f : Buffers) → AlikeTraces a c → AlikeBuffers a b d
+    → PutGives a b v x y r e → PutGives c d v x y q f → AlikeChanges r q e f
+put-unread a c b d v x y r q e f A B G H =
+    put-tuned a (c .tolerances) (A .tolerances) b d B v x y r q e f G (subst (λ z. PutGives z d v x y q f) (tuned-same A) H)
 
 -- ---- ask
 -- an answer about a stretch says the same where tolerance and samples are the same unless the call is refused

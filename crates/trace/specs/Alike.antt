@@ -31,7 +31,7 @@ pub record AlikeBuffers (a : Trace) (b d : Buffers) : Type 0 where
   pub upward : AlikeSamples (a .held) (b .upward) (d .upward)
   pub table : AlikeCells (a .capacity) (a .levels) (a .held) (b .table) (d .table)
 
--- answers of add or correct that agree, with all that the next call may read
+-- answers of put that agree, with all that the next call may read
 pub record AlikeChanges (r q : Changed) (e f : Buffers) : Type 0 where
   pub outcome : r .outcome ≡ q .outcome
   pub cells : r .cells ≡ q .cells

@@ -1,7 +1,9 @@
 -- What each call gives and leaves: its number, its answer, and every lent buffer after the call. Assumes nothing.
 use mathlib.Core.Path.{_≡_}
+use mathlib.Core.Bool.{cond}
 use mathlib.Core.List.{List, _++_}
 use Prim.Native.Nat.{ℕ, _+_, _-_}
+use lib.Dec.{ltb}
 use lib.IntN.{ℤ}
 use lib.ListN.{getD, set, take, replicate}
 use Rattle.refusal.specs.declared.Refusal.{Refusal}
@@ -17,7 +19,7 @@ use Rattle.trace.specs.declared.Changed.{Changed}
 use Rattle.trace.specs.declared.Asked.{Asked}
 use Rattle.trace.specs.declared.Asked.the-variants as Asked
 use Rattle.trace.specs.declared.Levels.{Levels}
-use Rattle.trace.specs.Numbers.{StartNumber, AddNumber, CorrectNumber, AskNumber, ReadNumber}
+use Rattle.trace.specs.Numbers.{StartNumber, PutNumber, AskNumber, ReadNumber}
 
 -- ---- start
 -- the first m tolerances, then zeros up to 16
@@ -35,7 +37,7 @@ pub record StartGives (m N : ℕ) (tols : List ℕ) (r : Started) : Type 0 where
   pub done : r .outcome ≡ Done → r .trace ≡ emptyTrace m N tols
   pub refused : (why : Refusal) → r .outcome ≡ Refused why → r .trace ≡ noTrace
 
--- ---- add and correct
+-- ---- put
 -- the buffers that are lent
 pub record Buffers : Type 0 where
   pub across : List ℤ
@@ -44,6 +46,10 @@ pub record Buffers : Type 0 where
 
 abbrev pub buffers : List ℤ → List ℤ → List ℕ → Buffers
 buffers xs ys t = record { across = xs; upward = ys; table = t }
+
+-- how many samples are held once sample v is put among n: as many for a correction, where v is below n, and one more for an addition, where v is n
+abbrev pub heldWith : ℕ → ℕ → ℕ
+heldWith n v = cond (ltb v n) n (n + 1)
 
 -- the trace with n samples
 abbrev pub holding : Trace → ℕ → Trace
@@ -63,19 +69,11 @@ pub record NotPut (a : Trace) (b : Buffers) (r : Changed) (e : Buffers) : Type 0
   pub lent : e ≡ b
   pub count : r .cells ≡ 0
 
--- the promise of both calls, by the statement of the call's number
-pub record ChangeGives (Number : ℕ → Type 0) (a : Trace) (b : Buffers) (v n : ℕ) (x y : ℤ) (r : Changed) (e : Buffers) : Type 0 where
-  pub number : Number (code (r .outcome))
-  pub done : r .outcome ≡ Done → Put a b v n x y r e
+-- a sample (x, y) is put at place v
+pub record PutGives (a : Trace) (b : Buffers) (v : ℕ) (x y : ℤ) (r : Changed) (e : Buffers) : Type 0 where
+  pub number : PutNumber a (b .across) (b .upward) (b .table) v x y (code (r .outcome))
+  pub done : r .outcome ≡ Done → Put a b v (heldWith (a .held) v) x y r e
   pub refused : (why : Refusal) → r .outcome ≡ Refused why → NotPut a b r e
-
--- add puts a sample at place n, and then holds one more
-abbrev pub AddGives : Trace → Buffers → ℤ → ℤ → Changed → Buffers → Type 0
-AddGives a b x y = ChangeGives (AddNumber a (b .across) (b .upward) (b .table) x y) a b (a .held) (a .held + 1) x y
-
--- correct gives sample v new coordinates, and holds as many
-abbrev pub CorrectGives : Trace → Buffers → ℕ → ℤ → ℤ → Changed → Buffers → Type 0
-CorrectGives a b v x y = ChangeGives (CorrectNumber a (b .across) (b .upward) (b .table) v x y) a b v (a .held) x y
 
 -- ---- ask
 -- the paper's number of an answer, 0 for a yes and for a no

@@ -54,17 +54,17 @@ Good k = k ≡ 0
 abbrev pub StartNumber : ℕ → ℕ → List ℕ → ℕ → Type 0
 StartNumber m N tols = SetupNumber m N tols Good
 
-abbrev pub AddNumber : Trace → List ℤ → List ℤ → List ℕ → ℤ → ℤ → ℕ → Type 0
-AddNumber a xs ys t x y =
-    TraceNumber a (LentSamples a xs ys × LentTable a t) (StoredSamples a xs ys × StoredCells a t)
-    (First 6 (Coord x × Coord y → ⊥)
-    (First 7 (a .held ≡ a .capacity) Good))
+-- 7 and 8, of a place for a sample: the next one of a trace that is full, and one past the next
+abbrev pub PlaceNumber : Trace → ℕ → (ℕ → Type 0) → ℕ → Type 0
+PlaceNumber a v rest =
+    First 7 ((v ≡ a .held) × (a .held ≡ a .capacity))
+    (First 8 (a .held < v) rest)
 
-abbrev pub CorrectNumber : Trace → List ℤ → List ℤ → List ℕ → ℕ → ℤ → ℤ → ℕ → Type 0
-CorrectNumber a xs ys t v x y =
+abbrev pub PutNumber : Trace → List ℤ → List ℤ → List ℕ → ℕ → ℤ → ℤ → ℕ → Type 0
+PutNumber a xs ys t v x y =
     TraceNumber a (LentSamples a xs ys × LentTable a t) (StoredSamples a xs ys × StoredCells a t)
     (First 6 (Coord x × Coord y → ⊥)
-    (First 8 (a .held ≤ v) Good))
+    (PlaceNumber a v Good))
 
 -- no such stretch, or no such level
 abbrev pub Absent : Trace → ℕ → ℕ → ℕ → Type 0

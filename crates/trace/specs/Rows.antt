@@ -2,9 +2,9 @@
 -- shows that each row gives the number of `Numbers.antt`. Assumes nothing.
 use Prim.Native.Nat.{ℕ, zero, suc, _*_, _≤_, _<_}
 use mathlib.Core.Path.{_≡_}
-use mathlib.Core.Bool.{Bool, _&&_}
+use mathlib.Core.Bool.{Bool, _&&_, cond}
 use mathlib.Core.List.{List}
-use lib.Dec.{leb, ltb}
+use lib.Dec.{leb, ltb, eqb}
 use lib.IntN.{ℤ}
 use lib.ListN.{length, getD, set}
 use Rattle.refusal.specs.declared.Refusal.the-variants.{Setup, Tolerance, Buffer, Held, Stored, Coordinate, Full, Missing, Few}
@@ -66,16 +66,13 @@ sampleOk x y = coordinateOk x && coordinateOk y
 unfoldable pub stretchOk : Trace → ℕ → ℕ → ℕ → Bool
 stretchOk a k i j = ltb i j && (ltb j (a .held) && from-to 1 (a .levels) k)
 
--- 1 to 6 of a call with a new sample, and after them the call's last
-unfoldable pub sampleOutcome : Trace → List ℤ → List ℤ → List ℕ → ℤ → ℤ → Outcome → Outcome
-sampleOutcome a xs ys t x y last = andThen (traceOutcome a xs ys t (a .held)) (andThen (unless (sampleOk x y) Coordinate) last)
+-- 7 of the next place, 8 of one past it
+unfoldable pub placeOutcome : Trace → ℕ → Outcome
+placeOutcome a v = cond (eqb v (a .held)) (unless (ltb (a .held) (a .capacity)) Full) (unless (ltb v (a .held)) Missing)
 
 -- the row of each call
-abbrev pub addOutcome : Trace → List ℤ → List ℤ → List ℕ → ℤ → ℤ → Outcome
-addOutcome a xs ys t x y = sampleOutcome a xs ys t x y (unless (ltb (a .held) (a .capacity)) Full)
-
-abbrev pub correctOutcome : Trace → List ℤ → List ℤ → List ℕ → ℕ → ℤ → ℤ → Outcome
-correctOutcome a xs ys t v x y = sampleOutcome a xs ys t x y (unless (ltb v (a .held)) Missing)
+unfoldable pub putOutcome : Trace → List ℤ → List ℤ → List ℕ → ℕ → ℤ → ℤ → Outcome
+putOutcome a xs ys t v x y = andThen (traceOutcome a xs ys t (a .held)) (andThen (unless (sampleOk x y) Coordinate) (placeOutcome a v))
 
 unfoldable pub askOutcome : Trace → List ℤ → List ℤ → ℕ → ℕ → ℕ → Outcome
 askOutcome a xs ys k i j = andThen (lentOutcome a 0 (length xs) (length ys) 0 (a .held)) (andThen (unless (samplesOk a xs ys) Stored) (unless (stretchOk a k i j) Missing))

@@ -2,8 +2,8 @@
 ghost use mathlib.Core.Path.{_≡_};
 ghost use Prim.Native.Nat.{_*_, _≤_};
 ghost use lib.ListN.{length};
-ghost use Rattle.trace.specs.Calls.{buffers, kept, StartGives, AddGives, CorrectGives, AskGives, ReadGives};
-ghost use Rattle.trace.specs.Rows.{setupOk, tolerancesOk, setupOutcome, lentOk, lentOutcome, samplesOk, storedOk, sampleOk, stretchOk, traceOutcome, sampleOutcome, askOutcome, readOutcome, Ready, Changes};
+ghost use Rattle.trace.specs.Calls.{buffers, kept, heldWith, StartGives, PutGives, AskGives, ReadGives};
+ghost use Rattle.trace.specs.Rows.{setupOk, tolerancesOk, setupOutcome, lentOk, lentOutcome, samplesOk, storedOk, sampleOk, stretchOk, traceOutcome, placeOutcome, putOutcome, askOutcome, readOutcome, Ready, Changes};
 use geometry::Verdict;
 use geometry::coordinate_ok;
 use geometry::coordinates_ok;
@@ -26,7 +26,7 @@ pub struct Started {
     pub trace: Trace,
 }
 
-// What add and correct give: the next trace and the count of cells written; refused, the trace given and 0.
+// What put gives: the next trace and the count of cells written; refused, the trace given and 0.
 pub struct Changed {
     pub outcome: Outcome,
     pub trace: Trace,
@@ -221,21 +221,24 @@ impl Trace {
         unless(self.stored_ok(xs, ys, table), Refusal::Stored)
     }
 
-    // Refusals 1 to 6 of a call with a new sample, and after them the call's last.
-    fn sample_outcome(
-        self,
-        xs: &[i16],
-        ys: &[i16],
-        table: &[u16],
-        x: i16,
-        y: i16,
-        last: Outcome,
-    ) -> Outcome
-        ensures { λ r. ⌜ r ≡ sampleOutcome self (now (xs .entry)) (now (ys .entry)) (now (table .entry)) x y last ⌝ }
+    // Refusals 7 and 8 of a place: the next one needs room, and there is none past it.
+    fn place_outcome(self, v: usize) -> Outcome
+        ensures { λ r. ⌜ r ≡ placeOutcome self v ⌝ }
+    {
+        if v == self.held {
+            return unless(self.held < self.capacity, Refusal::Full);
+        }
+        unless(v < self.held, Refusal::Missing)
+    }
+
+    // Refusals 1 to 8 of a sample at place v.
+    fn put_outcome(self, xs: &[i16], ys: &[i16], table: &[u16], v: usize, x: i16, y: i16) -> Outcome
+        ensures { λ r. ⌜ r ≡ putOutcome self (now (xs .entry)) (now (ys .entry)) (now (table .entry)) v x y ⌝ }
     {
         let o = self.trace_outcome(xs, ys, table, self.held);
         let sample = unless(sample_ok(x, y), Refusal::Coordinate);
-        and_then(o, and_then(sample, last))
+        let place = self.place_outcome(v);
+        and_then(o, and_then(sample, place))
     }
 
     // Refusals 1 to 5, without a table, and 8.
@@ -263,8 +266,19 @@ impl Trace {
 
 // The calls.
 impl Trace {
+    // How many samples are held once sample v is put.
+    fn held_with(self, v: usize) -> usize
+        requires { ⌜ self .held ≤ 256 ⌝ }
+        ensures { λ r. ⌜ r ≡ heldWith (self .held) v ⌝ }
+    {
+        if v < self.held {
+            return self.held;
+        }
+        self.held + 1
+    }
+
     // Make sample v (x, y), of n samples then held, and rewrite the cells of the stretches with it.
-    fn put(
+    fn change(
         self,
         xs: &mut [i16],
         ys: &mut [i16],
@@ -318,25 +332,8 @@ impl Trace {
         }
     }
 
-    // One sample more.
-    pub fn add(self, xs: &mut [i16], ys: &mut [i16], table: &mut [u16], x: i16, y: i16) -> Changed
-        ensures { λ r. ⌜ AddGives self (buffers (now (xs .entry)) (now (ys .entry)) (now (table .entry))) x y r (buffers (now (xs .exit)) (now (ys .exit)) (now (table .exit))) ⌝ }
-    {
-        let room = unless(self.held < self.capacity, Refusal::Full);
-        let o = self.sample_outcome(xs, ys, table, x, y, room);
-        let Outcome::Done = o else {
-            return Changed {
-                outcome: o,
-                trace: self,
-                cells: 0,
-            };
-        };
-        let n = self.held;
-        self.put(xs, ys, table, n, n + 1, x, y)
-    }
-
-    // New coordinates for sample v.
-    pub fn correct(
+    // A sample at place v: a correction where v is below n, an addition where v is n.
+    pub fn put(
         self,
         xs: &mut [i16],
         ys: &mut [i16],
@@ -345,10 +342,9 @@ impl Trace {
         x: i16,
         y: i16,
     ) -> Changed
-        ensures { λ r. ⌜ CorrectGives self (buffers (now (xs .entry)) (now (ys .entry)) (now (table .entry))) v x y r (buffers (now (xs .exit)) (now (ys .exit)) (now (table .exit))) ⌝ }
+        ensures { λ r. ⌜ PutGives self (buffers (now (xs .entry)) (now (ys .entry)) (now (table .entry))) v x y r (buffers (now (xs .exit)) (now (ys .exit)) (now (table .exit))) ⌝ }
     {
-        let there = unless(v < self.held, Refusal::Missing);
-        let o = self.sample_outcome(xs, ys, table, x, y, there);
+        let o = self.put_outcome(xs, ys, table, v, x, y);
         let Outcome::Done = o else {
             return Changed {
                 outcome: o,
@@ -356,7 +352,8 @@ impl Trace {
                 cells: 0,
             };
         };
-        self.put(xs, ys, table, v, self.held, x, y)
+        let n = self.held_with(v);
+        self.change(xs, ys, table, v, n, x, y)
     }
 
     // Whether the stretch from sample i to sample j is permitted at level k.

@@ -36,8 +36,8 @@ mul-y-2 c = search needs
 array-copy-out-y : tie.Need-array-copy-out-y Inv-loop μ-loop
 array-copy-out-y c = search needs
 
-add-requires : tie.Need-add-requires Inv-loop μ-loop
-add-requires c κs = search needs
+put-requires : tie.Need-put-requires Inv-loop μ-loop
+put-requires c κs = search needs
 
 add-i : tie.Need-add-i Inv-loop μ-loop
 add-i c = search needs
@@ -74,7 +74,7 @@ add-all-spec =
     add-y
     mul-y-2
     array-copy-out-y
-    add-requires
+    put-requires
     add-i
     loop-less
     loop-again

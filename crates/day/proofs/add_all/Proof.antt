@@ -18,8 +18,8 @@ abbrev μ-loop : tie.MeasureT-loop
 loop-holds : tie.Need-loop-holds Inv-loop μ-loop
 loop-holds c = let p = c .before .before .pre in (omega arith, p .1, filled-none _ (p .2))
 
-add-record-requires : tie.Need-add-record-requires Inv-loop μ-loop
-add-record-requires c κs = (c .before .before .before .before .before .before .before .pre .0, omega arith)
+put-record-requires : tie.Need-put-record-requires Inv-loop μ-loop
+put-record-requires c κs = (c .before .before .before .before .before .before .before .pre .0, omega arith)
 
 enum-told : tie.Need-enum-told Inv-loop μ-loop
 enum-told c = search needs
@@ -39,7 +39,7 @@ same-length-3 c = search needs
 returns : tie.Need-returns Inv-loop μ-loop
 returns c =
     let i = c .before .before .before .before .before .before .before .before .before .before .before .loop in
-    (all-refused _ (c .before .before .before .before .before .before .before .before .before .before .before .before .before .before .pre .0) _ (i .inv .2) (omega arith) (rw (i .inv .1) at (c .before .before .before .before .before .before .add-record .ensures .0)) _ (c .enum-told2 .given .1), refl)
+    (all-refused _ (c .before .before .before .before .before .before .before .before .before .before .before .before .before .before .pre .0) _ (i .inv .2) (omega arith) (rw (i .inv .1) at (c .before .before .before .before .before .before .put-record .ensures .0)) _ (c .enum-told2 .given .1), refl)
 
 add-i : tie.Need-add-i Inv-loop μ-loop
 add-i c = omega arith
@@ -50,7 +50,7 @@ loop-less c = omega arith
 loop-again : tie.Need-loop-again Inv-loop μ-loop
 loop-again c =
     let i = c .before .before .before .before .before .before .before .before .before .before .before .before .loop in
-    let m = filled-more _ (c .before .before .before .before .before .before .before .before .before .before .before .before .before .before .before .pre .0) _ (i .inv .2) (omega arith) (rw (i .inv .1) at (c .before .before .before .before .before .before .before .add-record .ensures .0)) (c .before .enum-told .given .1) in
+    let m = filled-more _ (c .before .before .before .before .before .before .before .before .before .before .before .before .before .before .before .pre .0) _ (i .inv .2) (omega arith) (rw (i .inv .1) at (c .before .before .before .before .before .before .before .put-record .ensures .0)) (c .before .enum-told .given .1) in
     (omega arith, m .0, m .1)
 
 same-length-4 : tie.Need-same-length-4 Inv-loop μ-loop
@@ -75,7 +75,7 @@ add-all-spec =
     Inv-loop
     μ-loop
     loop-holds
-    add-record-requires
+    put-record-requires
     enum-told
     enum-told-2
     same-length

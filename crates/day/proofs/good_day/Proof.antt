@@ -1,4 +1,4 @@
--- `day::good_day` meets its contract: an add or the read is refused, or the levels are written. Assumes nothing.
+-- `day::good_day` meets its contract: a put or the read is refused, or the levels are written. Assumes nothing.
 use mathlib.Core.Path.{_≡_, refl, ap}
 use borrow.Author.Needs.{needs}
 use native.Mathlib.Omega.{arith}

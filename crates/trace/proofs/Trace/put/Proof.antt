@@ -1,36 +1,38 @@
--- `trace::Trace::put` meets its contract: the stores are the two `set`, and the walk does the rest. Assumes nothing.
-use mathlib.Core.Path.{refl, ap}
+-- `trace::Trace::put` meets its contract. Assumes nothing.
 use native.Mathlib.Omega.{arith}
-use lib.ListN.{set, length-set}
 use mir.Facts.{toZ-ofZ}
 use borrow.Author.Needs.{needs}
+use Rattle.refusal.specs.Number.{code}
+use Rattle.trace.specs.Numbers.{PutNumber}
+use Rattle.trace.proofs.Numbers.{put-number}
+use Rattle.trace.proofs.Passed.{put-passed, put-ready}
+use Rattle.trace.proofs.Calls.{refused-gives, changed-gives}
 use Rattle.trace.proofs.Trace.put.Statement.{statement}
 use Rattle.trace.proofs.Trace.put.Tie as tie
 
-mul-x : tie.Need-mul-x
-mul-x c = search needs
+-- the number that the checks gave
+number : (c : tie.After-put-outcome) →
+    let a = c .before .before .before .before .before .args in
+    PutNumber (a .self) (a .xs .now) (a .ys .now) (a .table .now) (a .v) (a .x) (a .y) (code (c .put-outcome .result))
+number c =
+    let s = c .before .before .before .before .before in
+    let a = s .args in
+    rw (c .put-outcome .ensures, toZ-ofZ (s .fits .x), toZ-ofZ (s .fits .y)) (put-number (a .self) (a .xs .now) (a .ys .now) (a .table .now) (a .v) (a .x) (a .y))
 
-slice-set-from-x : tie.Need-slice-set-from-x
-slice-set-from-x c =
-    let a = c .before .args in
-    omega (arith, length-set (a .xs .now) (a .v) (a .x), c .before .pre .across .held)
+-- where they refused nothing
+zero : (c : tie.After-enum-told) →
+    let a = c .before .before .before .before .before .before .before .args in
+    PutNumber (a .self) (a .xs .now) (a .ys .now) (a .table .now) (a .v) (a .x) (a .y) 0
+zero c = rw (c .enum-told .given .1) at (number (c .before .before))
 
-mul-y : tie.Need-mul-y
-mul-y c = search needs
+put-outcome-requires : tie.Need-put-outcome-requires
+put-outcome-requires c κs = search needs
 
-slice-set-from-y : tie.Need-slice-set-from-y
-slice-set-from-y c =
-    let a = c .before .args in
-    omega (arith, length-set (a .ys .now) (a .v) (a .y), c .before .pre .upward .held)
+enum-told : tie.Need-enum-told
+enum-told c = search needs
 
-rewrite-requires : tie.Need-rewrite-requires
-rewrite-requires c κs =
-    let s = c .before .before .before .before .before .before in
-    let p = s .pre in
-    let z = p .sizes in (
-      (z .0, z .1, z .2, z .3, z .4, p .rising),
-      ((rw (toZ-ofZ (s .fits .x)) (p .across), rw (toZ-ofZ (s .fits .y)) (p .upward), p .room), p .steps),
-    )
+enum-told-2 : tie.Need-enum-told-2
+enum-told-2 c = search needs
 
 same-length : tie.Need-same-length
 same-length c = search needs
@@ -42,28 +44,50 @@ same-length-3 : tie.Need-same-length-3
 same-length-3 c = search needs
 
 returns : tie.Need-returns
-returns c =
-    let s = c .before .before .before .before .before .before .before .before .before in
-    let w = c .before .before .rewrite .ensures in
-    record {
-      outcome = refl;
-      trace = refl;
-      across = ap (set (s .args .xs .now) (s .args .v)) (toZ-ofZ (s .fits .x));
-      upward = ap (set (s .args .ys .now) (s .args .v)) (toZ-ofZ (s .fits .y));
-      cells = rw (toZ-ofZ (s .fits .x), toZ-ofZ (s .fits .y)) at (w .1);
-      count = w .0;
-    }
+returns c = refused-gives (number (c .before .before)) (c .enum-told2 .given .1)
+
+held-with-requires : tie.Need-held-with-requires
+held-with-requires c κs =
+    let a = c .before .before .before .before .before .before .before .args in
+    let P = put-passed (a .self) (a .xs .now) (a .ys .now) (a .table .now) (a .v) (a .x) (a .y) (zero c) .0 in
+    omega arith
+
+change-requires : tie.Need-change-requires
+change-requires c κs =
+    let h = c .before .before .before in
+    let s = h .before .before .before .before .before .before .before .before in
+    rw (toZ-ofZ (s .fits .x), toZ-ofZ (s .fits .y), h .held-with .ensures) (put-ready _ _ _ _ _ _ _ (zero (h .before)))
+
+same-length-4 : tie.Need-same-length-4
+same-length-4 c = search needs
+
+same-length-5 : tie.Need-same-length-5
+same-length-5 c = search needs
+
+same-length-6 : tie.Need-same-length-6
+same-length-6 c = search needs
+
+returns-2 : tie.Need-returns-2
+returns-2 c =
+    let d = c .before .before .before .before in
+    let h = d .before .before .before .before in
+    let s = h .before .before .before .before .before .before .before .before in
+    changed-gives (zero (h .before)) (rw (toZ-ofZ (s .fits .x), toZ-ofZ (s .fits .y), h .held-with .ensures) at (d .change .ensures))
 
 pub put-spec : {M : Type 1} → statement M
 put-spec =
     tie.close
     (tie.spec
-    mul-x
-    slice-set-from-x
-    mul-y
-    slice-set-from-y
-    rewrite-requires
+    put-outcome-requires
+    enum-told
+    enum-told-2
     same-length
     same-length-2
     same-length-3
-    returns)
+    returns
+    held-with-requires
+    change-requires
+    same-length-4
+    same-length-5
+    same-length-6
+    returns-2)

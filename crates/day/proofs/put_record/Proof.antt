@@ -1,10 +1,10 @@
--- `day::add_record` meets its contract: the sample is the file's. Assumes nothing.
+-- `day::put_record` meets its contract: the sample is the file's. Assumes nothing.
 use borrow.Author.Needs.{needs}
 use mathlib.Core.Path.{refl, ap, _∙_}
 use Rattle.record.specs.Record.{decodeOf}
 use Rattle.day.proofs.Records.{good-sample}
-use Rattle.day.proofs.add_record.Statement.{statement}
-use Rattle.day.proofs.add_record.Tie as tie
+use Rattle.day.proofs.put_record.Statement.{statement}
+use Rattle.day.proofs.put_record.Tie as tie
 
 record-of-requires : tie.Need-record-of-requires
 record-of-requires c κs = search needs
@@ -12,8 +12,8 @@ record-of-requires c κs = search needs
 decode-requires : tie.Need-decode-requires
 decode-requires c κs = search needs
 
-add-requires : tie.Need-add-requires
-add-requires c κs = search needs
+put-requires : tie.Need-put-requires
+put-requires c κs = search needs
 
 same-length : tie.Need-same-length
 same-length c = search needs
@@ -28,15 +28,15 @@ returns : tie.Need-returns
 returns c =
     let p = c .before .before .before .before .before .before .before .before .before .before .before .before .before .before .pre in
     let z = good-sample _ (p .0) _ (p .1) _ (c .before .before .before .before .before .before .before .before .before .before .decode .ensures .0 ∙ ap decodeOf (c .before .before .before .before .before .before .before .before .before .before .before .record-of .ensures .0)) in
-    (rw (z .0, z .1) at (c .before .before .before .before .add .ensures), refl)
+    (rw (z .0, z .1) at (c .before .before .before .before .put .ensures), refl)
 
-pub add-record-spec : {M : Type 1} → statement M
-add-record-spec =
+pub put-record-spec : {M : Type 1} → statement M
+put-record-spec =
     tie.close
     (tie.spec
     record-of-requires
     decode-requires
-    add-requires
+    put-requires
     same-length
     same-length-2
     same-length-3
