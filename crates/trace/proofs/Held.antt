@@ -18,10 +18,11 @@ held-added n v h = rw (le-ltb v n h) refl
 pub held-either : (n v : ℕ) → v ≤ n → ((v < n) × (heldWith n v ≡ n)) ⊎ ((v ≡ n) × (heldWith n v ≡ n + 1))
 held-either n v h = ⊎-elim (λ e. inr (e, held-added n v (omega arith))) (λ l. inl (l, held-corrected n v l)) (eq-or-lt-of-le h)
 
--- sample v is then held, with no more than one sample more
-pub held-there : (n v : ℕ) → v ≤ n → (v < heldWith n v) × (heldWith n v ≤ n + 1)
-held-there n v h = ⊎-elim (λ p. (omega arith, omega arith)) (λ p. (omega arith, omega arith)) (held-either n v h)
+-- sample v is then held
+pub held-there : (n v : ℕ) → v ≤ n → v < heldWith n v
+held-there n v h = ⊎-elim (λ p. omega arith) (λ p. omega arith) (held-either n v h)
 
+-- within the capacity, where v is
 pub held-room : (n v N : ℕ) → n ≤ N → v ≤ n → v < N → heldWith n v ≤ N
 held-room n v N h o l = ⊎-elim (λ p. omega arith) (λ p. omega arith) (held-either n v o)
 

@@ -149,7 +149,7 @@ put-ready a xs ys t v x y h =
     let p = put-passed a xs ys t v x y h in
     let P = p .0 in
     let n = heldWith (a .held) v in
-    let there = held-there (a .held) v (p .4) .0 in
+    let there = held-there (a .held) v (p .4) in
     let room = held-room (a .held) v (a .capacity) (P .held) (p .4) (p .5) in
     let others = held-others (a .held) v (p .4) in
     record {
