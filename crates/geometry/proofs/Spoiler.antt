@@ -1,7 +1,7 @@
 -- Laws of the answer about a stretch: there is one and no other, it is yes exactly when the stretch is permitted, and otherwise it is no with the spoiler. The answer by
 -- computing is that one. Assumes nothing.
 use mathlib.Core.Path.{_≡_, refl, ap}
-use mathlib.Core.Bool.{Bool}
+use mathlib.Core.Bool.{Bool, _&&_, not}
 use mathlib.Core.List.{List}
 use mathlib.Core.Logic.{_↔_}
 use Prim.Native.Nat.{ℕ, zero, suc, _+_, _*_, _-_, _≤_, _<_}
@@ -11,11 +11,12 @@ use native.Mathlib.Omega.{arith}
 use lib.IntN.{ℤ, pos}
 use lib.ListN.{getD}
 use Rattle.refusal.specs.Check.{Decides}
-use Rattle.refusal.proofs.Plain.{yes-decides, no-decides}
+use Rattle.refusal.proofs.Plain.{yes-decides, no-decides, not-decided, by-equal, both-decided}
 use Rattle.geometry.specs.declared.Verdict.{Verdict}
 use Rattle.geometry.specs.declared.Verdict.the-variants.{Yes, No}
 use Rattle.geometry.specs.Coordinate.{InRange}
-use Rattle.geometry.specs.Near.{Along, Permitted}
+use Rattle.geometry.specs.Mark.{Marked, marked}
+use Rattle.geometry.specs.Near.{Passable, Permitted}
 use Rattle.geometry.specs.Shifted.{NearAt}
 use Rattle.geometry.specs.Spoiler.{Clear, Spoiler, Says, isYes}
 use Rattle.geometry.specs.Test.{moved, lowest, judged, permits}
@@ -26,7 +27,7 @@ use Rattle.geometry.proofs.Move.{stands}
 -- ---- the spoiler
 lowest-le : {P : ℕ → Type 0} {i j k l : ℕ} → Spoiler P i j k → Spoiler P i j l → k ≤ l
 lowest-le {k = k} {l = l} s t = elim (decLt l k) [
-  | yes h ↦ absurd (t .far (s .lowest l (t .after) h))
+  | yes h ↦ absurd (t .spoils (s .lowest l (t .after) h))
   | no n ↦ omega arith
 ]
 
@@ -34,41 +35,46 @@ pub spoiler-one : {P : ℕ → Type 0} {i j k l : ℕ} → Spoiler P i j k → S
 spoiler-one s t = le-antisymm (lowest-le s t) (lowest-le t s)
 
 not-clear : {P : ℕ → Type 0} {i j k : ℕ} → Spoiler P i j k → Clear P i j → ⊥
-not-clear s c = s .far (c _ (s .after) (s .before))
+not-clear s c = s .spoils (c _ (s .after) (s .before))
 
 -- what is equivalent between i and j has the same
 pub spoiler-carried : {P Q : ℕ → Type 0} {i j k : ℕ} → ((l : ℕ) → i < l → l < j → P l ↔ Q l) → Spoiler P i j k → Spoiler Q i j k
 spoiler-carried f s = record {
   after = s .after;
   before = s .before;
-  far = λ q. s .far (f _ (s .after) (s .before) .1 q);
+  spoils = λ q. s .spoils (f _ (s .after) (s .before) .1 q);
   lowest = λ l a b. f l a (omega (arith, s .before)) .0 (s .lowest l a b);
 }
 
 -- ---- the answer
-pub spoiled : {xs ys : List ℤ} {i j e k : ℕ} → Spoiler (Along xs ys i j e) i j k → Permitted xs ys i j e → ⊥
+pub spoiled : {xs ys : List ℤ} {ms : List ℕ} {i j e k : ℕ} → Spoiler (Passable xs ys ms i j e) i j k → Permitted xs ys ms i j e → ⊥
 spoiled s p = not-clear s (p .each)
 
-module _ (xs ys : List ℤ) (i j e : ℕ) where
+module _ (xs ys : List ℤ) (ms : List ℕ) (i j e : ℕ) where
   -- any two are equal
-  pub says-one : (v w : Verdict) → Says xs ys i j e v → Says xs ys i j e w → v ≡ w
+  pub says-one : (v w : Verdict) → Says xs ys ms i j e v → Says xs ys ms i j e w → v ≡ w
   says-one Yes Yes p q = refl
   says-one Yes (No k) p s = absurd (spoiled s p)
   says-one (No k) Yes s p = absurd (spoiled s p)
   says-one (No k) (No l) s t = ap No (spoiler-one s t)
 
   -- yes exactly when the stretch is permitted, and no with k exactly when k is the spoiler
-  pub says-yes : (v : Verdict) → Says xs ys i j e v → (v ≡ Yes) ↔ Permitted xs ys i j e
+  pub says-yes : (v : Verdict) → Says xs ys ms i j e v → (v ≡ Yes) ↔ Permitted xs ys ms i j e
   says-yes v s = (λ h. rw h at s, λ p. says-one v Yes s p)
 
-  pub says-no : (v : Verdict) (k : ℕ) → Says xs ys i j e v → (v ≡ No k) ↔ Spoiler (Along xs ys i j e) i j k
+  pub says-no : (v : Verdict) (k : ℕ) → Says xs ys ms i j e v → (v ≡ No k) ↔ Spoiler (Passable xs ys ms i j e) i j k
   says-no v k s = (λ h. rw h at s, λ t. says-one v (No k) s t)
 
-  pub says-decides : (v : Verdict) → Says xs ys i j e v → Decides (Permitted xs ys i j e) (isYes v)
+  pub says-decides : (v : Verdict) → Says xs ys ms i j e v → Decides (Permitted xs ys ms i j e) (isYes v)
   says-decides Yes p = yes-decides p
   says-decides (No k) s = no-decides (spoiled s)
 
 -- ---- the answer by computing
+-- a sample that is not marked, and of which a test decides a statement
+unmarked-and : {P : Type 0} (ms : List ℕ) (k : ℕ) (t : Bool) → Decides P t → Decides ((Marked ms k → ⊥) × P) (not (marked ms k) && t)
+unfolding marked
+unmarked-and ms k t d = both-decided (not (marked ms k)) t (not-decided (by-equal (getD ms k 0) 1)) d
+
 -- what an answer says of any statement about the numbers strictly between i and j
 abbrev pub Told : (ℕ → Type 0) → ℕ → ℕ → Verdict → Type 0
 Told P i j Yes = Clear P i j
@@ -83,7 +89,7 @@ clear-more P i j p c l a b = elim (decLt (suc i) l) [
 
 told-more : (P : ℕ → Type 0) (i j : ℕ) (v : Verdict) → P (suc i) → Told P (suc i) j v → Told P i j v
 told-more P i j Yes p c = clear-more P i j p c
-told-more P i j (No k) p s = record { after = omega (arith, s .after); before = s .before; far = s .far; lowest = clear-more P i k p (s .lowest) }
+told-more P i j (No k) p s = record { after = omega (arith, s .after); before = s .before; spoils = s .spoils; lowest = clear-more P i k p (s .lowest) }
 
 lowest-told : (P : ℕ → Type 0) (f : ℕ → Bool) (i j n : ℕ) → n ≡ j - suc i → ((k : ℕ) → i < k → k < j → Decides (P k) (f k)) → Told P i j (lowest f (suc i) n)
 unfolding lowest
@@ -91,40 +97,40 @@ lowest-told P f i j zero e d = λ l a b. absurd (omega arith)
 lowest-told P f i j (suc n) e d =
     by-cond (Told P i j) (f (suc i))
     (λ t. told-more P i j (lowest f (suc (suc i)) n) (d (suc i) (omega arith) (omega arith) .right t) (lowest-told P f (suc i) j n (omega arith) (λ k a b. d k (omega arith) b)))
-    (λ t. record { after = omega arith; before = omega arith; far = d (suc i) (omega arith) (omega arith) .wrong t; lowest = λ l a b. absurd (omega arith) })
+    (λ t. record { after = omega arith; before = omega arith; spoils = d (suc i) (omega arith) (omega arith) .wrong t; lowest = λ l a b. absurd (omega arith) })
 
--- of any coordinates, about `Along` of the coordinates moved
-abbrev pub AlongAt : List ℤ → List ℤ → ℕ → ℕ → ℕ → ℕ → Type 0
-AlongAt xs ys i j e k =
-    NearAt (moved (getD xs i (pos 0))) (moved (getD ys i (pos 0))) (moved (getD xs j (pos 0))) (moved (getD ys j (pos 0)))
+-- of any coordinates, about `Passable` of the coordinates moved
+abbrev pub PassableAt : List ℤ → List ℤ → List ℕ → ℕ → ℕ → ℕ → ℕ → Type 0
+PassableAt xs ys ms i j e k =
+    (Marked ms k → ⊥) × NearAt (moved (getD xs i (pos 0))) (moved (getD ys i (pos 0))) (moved (getD xs j (pos 0))) (moved (getD ys j (pos 0)))
     (moved (getD xs k (pos 0))) (moved (getD ys k (pos 0))) (e * e)
 
-judged-told : (xs ys : List ℤ) (i j e : ℕ) → Told (AlongAt xs ys i j e) i j (judged xs ys i j e)
+judged-told : (xs ys : List ℤ) (ms : List ℕ) (i j e : ℕ) → Told (PassableAt xs ys ms i j e) i j (judged xs ys ms i j e)
 unfolding judged
-judged-told xs ys i j e = lowest-told (AlongAt xs ys i j e) _ i j (j - suc i) refl (λ k a b. reaches-decided _ _ _ _ _ _ (e * e))
+judged-told xs ys ms i j e = lowest-told (PassableAt xs ys ms i j e) _ i j (j - suc i) refl (λ k a b. unmarked-and ms k _ (reaches-decided _ _ _ _ _ _ (e * e)))
 
-pub permits-told : (xs ys : List ℤ) (i j e : ℕ) → Decides (Clear (AlongAt xs ys i j e) i j) (permits xs ys i j e)
+pub permits-told : (xs ys : List ℤ) (ms : List ℕ) (i j e : ℕ) → Decides (Clear (PassableAt xs ys ms i j e) i j) (permits xs ys ms i j e)
 unfolding permits
-permits-told xs ys i j e = by (judged xs ys i j e) (judged-told xs ys i j e)
+permits-told xs ys ms i j e = by (judged xs ys ms i j e) (judged-told xs ys ms i j e)
   where
-    by : (v : Verdict) → Told (AlongAt xs ys i j e) i j v → Decides (Clear (AlongAt xs ys i j e) i j) (isYes v)
+    by : (v : Verdict) → Told (PassableAt xs ys ms i j e) i j v → Decides (Clear (PassableAt xs ys ms i j e) i j) (isYes v)
     by Yes c = yes-decides c
     by (No k) s = no-decides (not-clear s)
 
 -- of coordinates in range, about the stretch
-pub judged-says : (xs ys : List ℤ) (i j e : ℕ) → InRange xs (j + 1) → InRange ys (j + 1) → i < j → Says xs ys i j e (judged xs ys i j e)
+pub judged-says : (xs ys : List ℤ) (ms : List ℕ) (i j e : ℕ) → InRange xs (j + 1) → InRange ys (j + 1) → i < j → Says xs ys ms i j e (judged xs ys ms i j e)
 unfolding judged
-judged-says xs ys i j e h g o =
-    by (judged xs ys i j e)
-    (lowest-told (Along xs ys i j e) _ i j (j - suc i) refl
+judged-says xs ys ms i j e h g o =
+    by (judged xs ys ms i j e)
+    (lowest-told (Passable xs ys ms i j e) _ i j (j - suc i) refl
     (λ k a b.
-    decides-near (stands _ (h .each i (omega arith))) (stands _ (g .each i (omega arith))) (stands _ (h .each j (omega arith))) (stands _ (g .each j (omega arith)))
-    (stands _ (h .each k (omega arith))) (stands _ (g .each k (omega arith))) (reaches-decided _ _ _ _ _ _ (e * e))))
+    unmarked-and ms k _ (decides-near (stands _ (h .each i (omega arith))) (stands _ (g .each i (omega arith))) (stands _ (h .each j (omega arith))) (stands _ (g .each j (omega arith)))
+    (stands _ (h .each k (omega arith))) (stands _ (g .each k (omega arith))) (reaches-decided _ _ _ _ _ _ (e * e)))))
   where
-    by : (v : Verdict) → Told (Along xs ys i j e) i j v → Says xs ys i j e v
+    by : (v : Verdict) → Told (Passable xs ys ms i j e) i j v → Says xs ys ms i j e v
     by Yes c = record { each = c }
     by (No k) s = s
 
-pub permits-decided : (xs ys : List ℤ) (i j e : ℕ) → InRange xs (j + 1) → InRange ys (j + 1) → i < j → Decides (Permitted xs ys i j e) (permits xs ys i j e)
+pub permits-decided : (xs ys : List ℤ) (ms : List ℕ) (i j e : ℕ) → InRange xs (j + 1) → InRange ys (j + 1) → i < j → Decides (Permitted xs ys ms i j e) (permits xs ys ms i j e)
 unfolding permits
-permits-decided xs ys i j e h g o = says-decides xs ys i j e (judged xs ys i j e) (judged-says xs ys i j e h g o)
+permits-decided xs ys ms i j e h g o = says-decides xs ys ms i j e (judged xs ys ms i j e) (judged-says xs ys ms i j e h g o)

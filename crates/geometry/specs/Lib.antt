@@ -1,4 +1,5 @@
 pub mod Coordinate
+pub mod Mark
 pub mod Near
 pub mod Shifted
 pub mod Spoiler

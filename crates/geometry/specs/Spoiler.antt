@@ -1,11 +1,11 @@
--- What the answer about a stretch says: yes, or no with the lowest sample that lies too far away. Assumes nothing.
+-- What the answer about a stretch says: yes, or no with the lowest sample that is marked or lies too far away. Assumes nothing.
 use mathlib.Core.Bool.{Bool, true, false}
 use mathlib.Core.List.{List}
 use Prim.Native.Nat.{ℕ, _<_}
 use lib.IntN.{ℤ}
 use Rattle.geometry.specs.declared.Verdict.{Verdict}
 use Rattle.geometry.specs.declared.Verdict.the-variants.{Yes, No}
-use Rattle.geometry.specs.Near.{Along, Permitted}
+use Rattle.geometry.specs.Near.{Passable, Permitted}
 
 -- each sample strictly between i and k is fine
 abbrev pub Clear : (ℕ → Type 0) → ℕ → ℕ → Type 0
@@ -15,13 +15,13 @@ Clear Fine i k = (l : ℕ) → i < l → l < k → Fine l
 pub record Spoiler (Fine : ℕ → Type 0) (i j k : ℕ) : Type 0 where
   pub after : i < k
   pub before : k < j
-  pub far : Fine k → ⊥
+  pub spoils : Fine k → ⊥
   pub lowest : Clear Fine i k
 
 -- what each answer about the stretch from i to j says
-abbrev pub Says : List ℤ → List ℤ → ℕ → ℕ → ℕ → Verdict → Type 0
-Says xs ys i j e Yes = Permitted xs ys i j e
-Says xs ys i j e (No k) = Spoiler (Along xs ys i j e) i j k
+abbrev pub Says : List ℤ → List ℤ → List ℕ → ℕ → ℕ → ℕ → Verdict → Type 0
+Says xs ys ms i j e Yes = Permitted xs ys ms i j e
+Says xs ys ms i j e (No k) = Spoiler (Passable xs ys ms i j e) i j k
 
 -- whether an answer is yes
 abbrev pub isYes : Verdict → Bool

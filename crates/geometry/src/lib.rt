@@ -1,4 +1,4 @@
-// Whether a coordinate is in range, and whether a stretch of samples may be drawn as one segment, in whole numbers.
+// Whether a coordinate and a mark are in range, and whether a stretch of samples may be drawn as one segment, in whole numbers.
 ghost use mathlib.Core.Path.{_≡_};
 ghost use Prim.Native.Nat.{_+_, _*_, _≤_, _<_};
 ghost use lib.IntN.{pos, natAbs, _-ℤ_};
@@ -6,7 +6,8 @@ ghost use lib.ListN.{length, getD};
 ghost use Rattle.refusal.specs.Check.{Decides};
 ghost use Rattle.algebra.specs.Parts.{sq};
 ghost use Rattle.geometry.specs.Coordinate.{Coord, InRange, coordinateOk, coordinatesOk};
-ghost use Rattle.geometry.specs.Near.{Along};
+ghost use Rattle.geometry.specs.Mark.{markOk, marksOk};
+ghost use Rattle.geometry.specs.Near.{Passable};
 ghost use Rattle.geometry.specs.Spoiler.{Clear, Says};
 ghost use Rattle.geometry.specs.Way.{Way, NearBy};
 
@@ -14,6 +15,9 @@ ghost use Rattle.geometry.specs.Way.{Way, NearBy};
 pub const COORDINATE_LEAST: i16 = -16384;
 
 pub const COORDINATE_MOST: i16 = 16384;
+
+// The mark of the first sample of a new boot; that of any other is 0.
+pub const MARKED: u8 = 1;
 
 // Whether a coordinate is in range.
 pub fn coordinate_ok(x: i16) -> bool
@@ -35,6 +39,28 @@ pub fn coordinates_ok(s: &[i16], n: usize) -> bool
     while k < n {
         let x = s[k];
         if !coordinate_ok(x) {
+            return false;
+        }
+        k += 1;
+    }
+    true
+}
+
+// Whether a mark is in range.
+pub fn mark_ok(mark: u8) -> bool
+    ensures { λ r. ⌜ r ≡ markOk mark ⌝ }
+{
+    mark <= MARKED
+}
+
+// Whether the first n marks of a buffer are in range.
+pub fn marks_ok(s: &[u8], n: usize) -> bool
+    requires { ⌜ n ≤ length (now s) ⌝ }
+    ensures { λ r. ⌜ r ≡ marksOk (now (s .entry)) n ⌝ }
+{
+    let mut k = 0;
+    while k < n {
+        if !mark_ok(s[k]) {
             return false;
         }
         k += 1;
@@ -74,17 +100,25 @@ fn near(dx: i64, dy: i64, length: u64, px: i64, py: i64, reach: u64) -> bool
     (cross * cross) as u64 <= reach * length
 }
 
-// Whether a stretch is permitted: yes, or no with the lowest sample that lies too far away.
+// Whether a stretch is permitted: yes, or no with the lowest sample that is marked or lies too far away.
 pub enum Verdict {
     Yes,
     No(usize),
 }
 
-// Judge the stretch from sample i to sample j at tolerance e; its samples before from are known to lie near.
-pub fn judge(xs: &[i16], ys: &[i16], i: usize, j: usize, e: u32, from: usize) -> Verdict
-    requires { ⌜ (InRange (now xs) (j + 1)) × (InRange (now ys) (j + 1)) × (i < from) × (from ≤ j) × (e ≤ 65536) ⌝ }
-    requires { ⌜ Clear (Along (now xs) (now ys) i j e) i from ⌝ }
-    ensures { λ r. ⌜ Says (now (xs .entry)) (now (ys .entry)) i j e r ⌝ }
+// Judge the stretch from sample i to sample j at tolerance e; its samples before from are known to be passable.
+pub fn judge(
+    xs: &[i16],
+    ys: &[i16],
+    marks: &[u8],
+    i: usize,
+    j: usize,
+    e: u32,
+    from: usize,
+) -> Verdict
+    requires { ⌜ (InRange (now xs) (j + 1)) × (InRange (now ys) (j + 1)) × (j ≤ length (now marks)) × (i < from) × (from ≤ j) × (e ≤ 65536) ⌝ }
+    requires { ⌜ Clear (Passable (now xs) (now ys) (now marks) i j e) i from ⌝ }
+    ensures { λ r. ⌜ Says (now (xs .entry)) (now (ys .entry)) (now (marks .entry)) i j e r ⌝ }
 {
     let dx = way(xs, i, j);
     let dy = way(ys, i, j);
@@ -93,7 +127,7 @@ pub fn judge(xs: &[i16], ys: &[i16], i: usize, j: usize, e: u32, from: usize) ->
     let mut spoiler = j;
     let mut k = from;
     while k < spoiler {
-        if !near(dx, dy, length, way(xs, i, k), way(ys, i, k), reach) {
+        if marks[k] == MARKED || !near(dx, dy, length, way(xs, i, k), way(ys, i, k), reach) {
             spoiler = k;
         }
         k += 1;

@@ -1,12 +1,12 @@
 -- Tests and plain statements: when a test decides a statement. Assumes nothing.
 use mathlib.Core.Path.{_≡_, refl, sym, subst}
 use mathlib.Core.Logic.{_⊎_, inl, inr, ⊎-elim}
-use mathlib.Core.Bool.{Bool, true, false, _&&_, _||_, true≢false}
+use mathlib.Core.Bool.{Bool, true, false, _&&_, _||_, not, true≢false}
 use Prim.Native.Nat.{ℕ, zero, suc, _≤_, _<_}
 use native.Mathlib.Nat.{not-suc-le-zero, le-step, le-of-suc-le-suc, lt-suc-self, eq-or-lt-of-le, not-le-of-lt}
 use native.Mathlib.Omega.{arith}
 use lib.Dec.{leb, ltb, eqb}
-use borrow.Author.Tests.{leb-true, leb-false, ltb-true, ltb-false, eqb-true, eqb-false}
+use borrow.Author.Tests.{leb-true, leb-false, ltb-true, ltb-false, eqb-true, eqb-false, not-true, not-false}
 use Rattle.refusal.specs.Check.{allBelow, from-to, Decides}
 
 pub yes-decides : {P : Type 0} → P → Decides P true
@@ -52,6 +52,9 @@ by-equal m n = record { right = eqb-true m n; wrong = eqb-false m n }
 pub both-decided : {P Q : Type 0} (s t : Bool) → Decides P s → Decides Q t → Decides (P × Q) (s && t)
 both-decided true t d f = carry (λ q. (d .right refl, q)) (λ p. p .1) f
 both-decided false t d f = no-decides (λ p. d .wrong refl (p .0))
+
+pub not-decided : {P : Type 0} {t : Bool} → Decides P t → Decides (P → ⊥) (not t)
+not-decided {t = t} d = record { right = λ h. d .wrong (not-true t h); wrong = λ h n. n (d .right (not-false t h)) }
 
 pub either-decided : {P Q : Type 0} (s t : Bool) → Decides P s → Decides Q t → Decides (P ⊎ Q) (s || t)
 either-decided true t d f = yes-decides (inl (d .right refl))
