@@ -2,6 +2,7 @@ pub mod Coordinate
 pub mod Core
 pub mod Decide
 pub mod Link
+pub mod Marks
 pub mod Move
 pub mod Permits
 pub mod Plane

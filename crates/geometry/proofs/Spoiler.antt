@@ -18,7 +18,7 @@ use Rattle.geometry.specs.Coordinate.{InRange}
 use Rattle.geometry.specs.Mark.{Marked, marked}
 use Rattle.geometry.specs.Near.{Passable, Permitted}
 use Rattle.geometry.specs.Shifted.{NearAt}
-use Rattle.geometry.specs.Spoiler.{Clear, Spoiler, Says, isYes}
+use Rattle.geometry.specs.Spoiler.{Clear, Spoiler, Told, Says, isYes}
 use Rattle.geometry.specs.Test.{moved, lowest, judged, permits}
 use Rattle.geometry.proofs.Decide.{by-cond, reaches-decided}
 use Rattle.geometry.proofs.Link.{decides-near}
@@ -74,11 +74,6 @@ module _ (xs ys : List ℤ) (ms : List ℕ) (i j e : ℕ) where
 unmarked-and : {P : Type 0} (ms : List ℕ) (k : ℕ) (t : Bool) → Decides P t → Decides ((Marked ms k → ⊥) × P) (not (marked ms k) && t)
 unfolding marked
 unmarked-and ms k t d = both-decided (not (marked ms k)) t (not-decided (by-equal (getD ms k 0) 1)) d
-
--- what an answer says of any statement about the numbers strictly between i and j
-abbrev pub Told : (ℕ → Type 0) → ℕ → ℕ → Verdict → Type 0
-Told P i j Yes = Clear P i j
-Told P i j (No k) = Spoiler P i j k
 
 -- one number more at the beginning
 clear-more : (P : ℕ → Type 0) (i j : ℕ) → P (suc i) → Clear P (suc i) j → Clear P i j

@@ -1,4 +1,4 @@
--- What the answer about a stretch says: yes, or no with the lowest sample that is marked or lies too far away. Assumes nothing.
+-- What a verdict says: yes of every sample in turn, or no with the lowest that spoils; of a whole stretch, whether it is permitted. Assumes nothing.
 use mathlib.Core.Bool.{Bool, true, false}
 use mathlib.Core.List.{List}
 use Prim.Native.Nat.{ℕ, _<_}
@@ -18,7 +18,12 @@ pub record Spoiler (Fine : ℕ → Type 0) (i j k : ℕ) : Type 0 where
   pub spoils : Fine k → ⊥
   pub lowest : Clear Fine i k
 
--- what each answer about the stretch from i to j says
+-- what each verdict on those strictly between i and j says
+abbrev pub Told : (ℕ → Type 0) → ℕ → ℕ → Verdict → Type 0
+Told Fine i j Yes = Clear Fine i j
+Told Fine i j (No k) = Spoiler Fine i j k
+
+-- and on the stretch from i to j: it is permitted, or k is the lowest sample that is marked or lies too far away
 abbrev pub Says : List ℤ → List ℤ → List ℕ → ℕ → ℕ → ℕ → Verdict → Type 0
 Says xs ys ms i j e Yes = Permitted xs ys ms i j e
 Says xs ys ms i j e (No k) = Spoiler (Passable xs ys ms i j e) i j k

@@ -6,9 +6,9 @@ ghost use lib.ListN.{length, getD};
 ghost use Rattle.refusal.specs.Check.{Decides};
 ghost use Rattle.algebra.specs.Parts.{sq};
 ghost use Rattle.geometry.specs.Coordinate.{Coord, InRange, coordinateOk, coordinatesOk};
-ghost use Rattle.geometry.specs.Mark.{markOk, marksOk};
-ghost use Rattle.geometry.specs.Near.{Passable};
-ghost use Rattle.geometry.specs.Spoiler.{Clear, Says};
+ghost use Rattle.geometry.specs.Mark.{FirstMarked, LastMarked, markOk, marksOk};
+ghost use Rattle.geometry.specs.Near.{Along};
+ghost use Rattle.geometry.specs.Spoiler.{Clear, Told, Says};
 ghost use Rattle.geometry.specs.Way.{Way, NearBy};
 
 // The range of a coordinate.
@@ -100,40 +100,78 @@ fn near(dx: i64, dy: i64, length: u64, px: i64, py: i64, reach: u64) -> bool
     (cross * cross) as u64 <= reach * length
 }
 
-// Whether a stretch is permitted: yes, or no with the lowest sample that is marked or lies too far away.
+// A verdict on samples: yes, or no with the lowest that spoils.
 pub enum Verdict {
     Yes,
     No(usize),
 }
 
-// Judge the stretch from sample i to sample j at tolerance e; its samples before from are known to be passable.
-pub fn judge(
-    xs: &[i16],
-    ys: &[i16],
-    marks: &[u8],
-    i: usize,
-    j: usize,
-    e: u32,
-    from: usize,
-) -> Verdict
-    requires { ⌜ (InRange (now xs) (j + 1)) × (InRange (now ys) (j + 1)) × (j ≤ length (now marks)) × (i < from) × (from ≤ j) × (e ≤ 65536) ⌝ }
-    requires { ⌜ Clear (Passable (now xs) (now ys) (now marks) i j e) i from ⌝ }
-    ensures { λ r. ⌜ Says (now (xs .entry)) (now (ys .entry)) (now (marks .entry)) i j e r ⌝ }
+// Judge the samples from `from` on and before `to` of the stretch from sample i to sample j, by their distance at tolerance e; those before `from` are known to lie near.
+pub fn judge(xs: &[i16], ys: &[i16], i: usize, j: usize, e: u32, from: usize, to: usize) -> Verdict
+    requires { ⌜ (InRange (now xs) (j + 1)) × (InRange (now ys) (j + 1)) × (i < from) × (from ≤ to) × (to ≤ j) × (e ≤ 65536) ⌝ }
+    requires { ⌜ Clear (Along (now xs) (now ys) i j e) i from ⌝ }
+    ensures { λ r. ⌜ Told (Along (now (xs .entry)) (now (ys .entry)) i j e) i to r ⌝ }
 {
     let dx = way(xs, i, j);
     let dy = way(ys, i, j);
     let length = squared(dx, dy);
     let reach = e as u64 * e as u64;
-    let mut spoiler = j;
+    let mut spoiler = to;
     let mut k = from;
     while k < spoiler {
-        if marks[k] == MARKED || !near(dx, dy, length, way(xs, i, k), way(ys, i, k), reach) {
+        if !near(dx, dy, length, way(xs, i, k), way(ys, i, k), reach) {
             spoiler = k;
         }
         k += 1;
     }
-    if spoiler < j {
+    if spoiler < to {
         return Verdict::No(spoiler);
+    }
+    Verdict::Yes
+}
+
+// The lowest marked sample of those from `from` on and before j, j where there is none.
+fn first_marked(marks: &[u8], from: usize, j: usize) -> usize
+    requires { ⌜ (from ≤ j) × (j ≤ length (now marks)) ⌝ }
+    ensures { λ r. ⌜ FirstMarked (now (marks .entry)) from j r ⌝ }
+{
+    let mut k = from;
+    while k < j {
+        if marks[k] == MARKED {
+            return k;
+        }
+        k += 1;
+    }
+    j
+}
+
+// The highest marked sample before j, 0 where there is none.
+pub fn last_marked(marks: &[u8], j: usize) -> usize
+    requires { ⌜ j ≤ length (now marks) ⌝ }
+    ensures { λ r. ⌜ LastMarked (now (marks .entry)) j r ⌝ }
+{
+    let mut k = j;
+    while 0 < k {
+        k -= 1;
+        if marks[k] == MARKED {
+            return k;
+        }
+    }
+    0
+}
+
+// Whether the stretch from sample i to sample j is permitted at tolerance e: yes, or no with the lowest sample that is marked or lies too far away.
+pub fn permitted(xs: &[i16], ys: &[i16], marks: &[u8], i: usize, j: usize, e: u32) -> Verdict
+    requires { ⌜ (InRange (now xs) (j + 1)) × (InRange (now ys) (j + 1)) × (j ≤ length (now marks)) × (i < j) × (e ≤ 65536) ⌝ }
+    ensures { λ r. ⌜ Says (now (xs .entry)) (now (ys .entry)) (now (marks .entry)) i j e r ⌝ }
+{
+    let first = first_marked(marks, i + 1, j);
+    let verdict = judge(xs, ys, i, j, e, i + 1, first);
+    let Verdict::Yes = verdict else {
+        return verdict;
+    };
+    if first < j {
+        return Verdict::No(first);
     }
     Verdict::Yes
 }

@@ -1,0 +1,50 @@
+-- The marks of a stretch apart from its geometry: where none lies between, distances alone decide; the lowest marked sample spoils where none before it lies too far;
+-- and no stretch passes over a marked one. Assumes nothing.
+use mathlib.Core.Path.{_≡_, sym}
+use mathlib.Core.Logic.{⊎-elim}
+use mathlib.Core.Bool.{Bool, true, false}
+use mathlib.Core.List.{List}
+use Prim.Native.Nat.{ℕ, _+_, _≤_, _<_}
+use native.Mathlib.Omega.{arith}
+use lib.IntN.{ℤ}
+use Rattle.refusal.proofs.Plain.{decides-unique, no-decides}
+use Rattle.refusal.proofs.Rows.{first-passed}
+use Rattle.geometry.specs.declared.Verdict.{Verdict}
+use Rattle.geometry.specs.declared.Verdict.the-variants.{Yes, No}
+use Rattle.geometry.specs.Mark.{Mark, Marked, FirstMarked, marksOk}
+use Rattle.geometry.specs.Near.{Along, Passable, Permitted}
+use Rattle.geometry.specs.Spoiler.{Clear, Spoiler, Told, Says}
+
+-- no sample strictly between i and j is marked
+abbrev pub Unmarked : List ℕ → ℕ → ℕ → Type 0
+Unmarked ms = Clear (λ k. Marked ms k → ⊥)
+
+module _ (xs ys : List ℤ) (ms : List ℕ) (i j e : ℕ) where
+  pub passable-clear : {k : ℕ} → Unmarked ms i k → Clear (Along xs ys i j e) i k → Clear (Passable xs ys ms i j e) i k
+  passable-clear u c l a b = (u l a b, c l a b)
+
+  module _ {r : ℕ} (f : FirstMarked ms (i + 1) j r) where
+    before : Unmarked ms i r
+    before l a b = f .lowest l (omega arith) b
+
+    -- what is said of the samples before the lowest marked one, where it is no, is said of the stretch
+    pub far-first : i < j → (k : ℕ) → Spoiler (Along xs ys i j e) i r k → Spoiler (Passable xs ys ms i j e) i j k
+    far-first o k s = record {
+      after = s .after;
+      before = ⊎-elim (λ t. omega (arith, s .before)) (λ t. omega (arith, s .before)) (f .there);
+      spoils = λ p. s .spoils (p .1);
+      lowest = passable-clear (λ l a b. before l a (omega (arith, s .before))) (s .lowest);
+    }
+
+    -- where it is yes, that one spoils
+    pub marked-first : r < j → Clear (Along xs ys i j e) i r → Spoiler (Passable xs ys ms i j e) i j r
+    marked-first h c = record {
+      after = omega (arith, f .from);
+      before = h;
+      spoils = λ p. ⊎-elim (λ t. p .0 (t .1)) (λ t. omega arith) (f .there);
+      lowest = passable-clear before c;
+    }
+
+    -- and where there is none the stretch is permitted
+    pub none-marked : j ≤ r → Clear (Along xs ys i j e) i r → Permitted xs ys ms i j e
+    none-marked h c = record { each = passable-clear (λ l a b. before l a (omega arith)) (λ l a b. c l a (omega arith)) }
