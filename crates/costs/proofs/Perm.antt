@@ -1,11 +1,11 @@
--- Laws of a trace's permissions: the test decides the statement, neighbours are permitted, a higher level permits more, and storing a sample changes only stretches
--- with it; and the finest level that permits a stretch. Assumes nothing.
-use mathlib.Core.Path.{_≡_, sym, _∙_}
+-- Laws of a trace's permissions: the test decides the statement, neighbours are permitted, a higher level permits more, storing a sample changes only stretches with
+-- it, and marks count apart from distances; and the finest level that permits a stretch. Assumes nothing.
+use mathlib.Core.Path.{_≡_, refl, sym, _∙_}
 use mathlib.Core.Logic.{inl, inr}
 use mathlib.Core.Bool.{Bool, true, false}
 use mathlib.Core.List.{List}
 use Prim.Native.Nat.{ℕ, zero, suc, _+_, _-_, _≤_, _<_}
-use native.Mathlib.Nat.{le-refl}
+use native.Mathlib.Nat.{le-refl, le-of-lt}
 use native.Mathlib.Numerals.{add-one}
 use native.Mathlib.Decide.{decLe}
 use native.Mathlib.Omega.{arith}
@@ -17,26 +17,33 @@ use Rattle.refusal.specs.Check.{Decides}
 use Rattle.refusal.proofs.Plain.{decides-unique}
 use Rattle.geometry.specs.Coordinate.{InRange}
 use Rattle.geometry.specs.declared.Verdict.{Verdict}
-use Rattle.geometry.specs.Spoiler.{Says, isYes}
+use Rattle.geometry.specs.Mark.{Marked, noMarks}
+use Rattle.geometry.specs.Near.{Along}
+use Rattle.geometry.specs.Spoiler.{Told, isYes}
+use Rattle.geometry.proofs.Marks.{Unmarked, unmarked-says}
 use Rattle.geometry.proofs.Spoiler.{says-decides, permits-decided}
-use Rattle.geometry.proofs.Permits.{permits-wider, permits-adjacent, permits-same, Same}
+use Rattle.geometry.proofs.Permits.{permits-wider, permits-adjacent, permits-same, permits-stops, Same, SameMarks}
 use Rattle.family.proofs.Local.{Without}
 use Rattle.costs.specs.Costs.{Permit}
 use Rattle.costs.specs.Walk.{perm, Rising, Finest}
 
-pub perm-decided : (xs ys : List ℤ) (tols : List ℕ) (k i j : ℕ) → InRange xs (j + 1) → InRange ys (j + 1) → i < j → Decides (Permit xs ys tols k i j) (perm xs ys tols k i j)
+pub perm-decided : (xs ys : List ℤ) (ms tols : List ℕ) (k i j : ℕ) → InRange xs (j + 1) → InRange ys (j + 1) → i < j → Decides (Permit xs ys ms tols k i j) (perm xs ys ms tols k i j)
 unfolding perm
-perm-decided xs ys tols k i j a b o = permits-decided xs ys i j (getD tols (k - 1) 0) a b o
+perm-decided xs ys ms tols k i j a b o = permits-decided xs ys ms i j (getD tols (k - 1) 0) a b o
 
--- the test is yes exactly when the answer about the stretch is
-pub perm-judged : (xs ys : List ℤ) (tols : List ℕ) (k i j : ℕ) (v : Verdict) → InRange xs (j + 1) → InRange ys (j + 1) → i < j → Says xs ys i j (getD tols (k - 1) 0) v
-    → perm xs ys tols k i j ≡ isYes v
+-- where no sample is marked, the test is yes exactly when the verdict by distance is
+pub perm-judged : (xs ys : List ℤ) (tols : List ℕ) (k i j : ℕ) (v : Verdict) → InRange xs (j + 1) → InRange ys (j + 1) → i < j
+    → Told (Along xs ys i j (getD tols (k - 1) 0)) i j v → perm xs ys noMarks tols k i j ≡ isYes v
 perm-judged xs ys tols k i j v a b o s =
-    decides-unique (perm xs ys tols k i j) (isYes v) (perm-decided xs ys tols k i j a b o) (says-decides xs ys i j (getD tols (k - 1) 0) v s)
+    decides-unique (perm xs ys noMarks tols k i j) (isYes v) (perm-decided xs ys noMarks tols k i j a b o)
+    (says-decides xs ys noMarks i j (getD tols (k - 1) 0) v (unmarked-says xs ys noMarks i j (getD tols (k - 1) 0) (λ l x y h. none-is h) v s))
+  where
+    none-is : {A : Type 0} → _≡_ {A = ℕ} 0 1 → A
+    none-is h = absurd (omega arith)
 
-pub perm-adjacent : (xs ys : List ℤ) (tols : List ℕ) (k i : ℕ) → perm xs ys tols k i (suc i) ≡ true
+pub perm-adjacent : (xs ys : List ℤ) (ms tols : List ℕ) (k i : ℕ) → perm xs ys ms tols k i (suc i) ≡ true
 unfolding perm
-perm-adjacent xs ys tols k i = permits-adjacent xs ys i (getD tols (k - 1) 0)
+perm-adjacent xs ys ms tols k i = permits-adjacent xs ys ms i (getD tols (k - 1) 0)
 
 pub rising : (tols : List ℕ) (m : ℕ) → Rising tols m → (a b : ℕ) → a ≤ b → b < m → getD tols a 0 ≤ getD tols b 0
 rising tols m r a zero h g = let e : a ≡ zero = omega arith in rw e (le-refl _)
@@ -45,22 +52,36 @@ rising tols m r a (suc b) h g = elim (decLe a b) [
   | no y ↦ (let e : a ≡ suc b = omega arith in rw e (le-refl _))
 ]
 
-pub perm-higher : (xs ys : List ℤ) (tols : List ℕ) (m k l i j : ℕ) → Rising tols m → 1 ≤ k → k ≤ l → l ≤ m → perm xs ys tols k i j ≡ true → perm xs ys tols l i j ≡ true
+pub perm-higher : (xs ys : List ℤ) (ms tols : List ℕ) (m k l i j : ℕ) → Rising tols m → 1 ≤ k → k ≤ l → l ≤ m → perm xs ys ms tols k i j ≡ true → perm xs ys ms tols l i j ≡ true
 unfolding perm
-perm-higher xs ys tols m k l i j r a b d = permits-wider xs ys i j (rising tols m r (k - 1) (l - 1) (omega arith) (omega arith))
+perm-higher xs ys ms tols m k l i j r a b d = permits-wider xs ys ms i j (rising tols m r (k - 1) (l - 1) (omega arith) (omega arith))
 
--- only the samples from i to j count
-pub perm-same : (xs ys vs ws : List ℤ) (tols : List ℕ) (k i j : ℕ) → Same xs vs i j → Same ys ws i j → perm xs ys tols k i j ≡ perm vs ws tols k i j
+-- only the samples from i to j count, and the marks between
+pub perm-same : (xs ys : List ℤ) (ms : List ℕ) (vs ws : List ℤ) (ns tols : List ℕ) (k i j : ℕ) → Same xs vs i j → Same ys ws i j → SameMarks ms ns i j
+    → perm xs ys ms tols k i j ≡ perm vs ws ns tols k i j
 unfolding perm
-perm-same xs ys vs ws tols k i j = permits-same xs ys vs ws i j (getD tols (k - 1) 0)
+perm-same xs ys ms vs ws ns tols k i j = permits-same xs ys ms vs ws ns i j (getD tols (k - 1) 0)
 
 -- a sample stored anew at v
-same-put : (xs : List ℤ) (v i j : ℕ) (x : ℤ) → Without v i j → Same xs (set xs v x) i j
-same-put xs v i j x (inl h) q a b = sym (getD-set-other xs v q x (pos 0) (λ e. omega arith))
-same-put xs v i j x (inr h) q a b = sym (getD-set-other xs v q x (pos 0) (λ e. omega arith))
+other-put : {A : Type 0} (s : List A) (v q i j : ℕ) (x d : A) → Without v i j → i ≤ q → q ≤ j → getD s q d ≡ getD (set s v x) q d
+other-put s v q i j x d (inl h) a b = sym (getD-set-other s v q x d (λ e. omega arith))
+other-put s v q i j x d (inr h) a b = sym (getD-set-other s v q x d (λ e. omega arith))
 
-pub perm-put : (xs ys : List ℤ) (tols : List ℕ) (v k i j : ℕ) (x y : ℤ) → Without v i j → perm xs ys tols k i j ≡ perm (set xs v x) (set ys v y) tols k i j
-perm-put xs ys tols v k i j x y w = perm-same xs ys (set xs v x) (set ys v y) tols k i j (same-put xs v i j x w) (same-put ys v i j y w)
+pub perm-put : (xs ys : List ℤ) (ms tols : List ℕ) (v k i j : ℕ) (x y : ℤ) (mark : ℕ) → Without v i j
+    → perm xs ys ms tols k i j ≡ perm (set xs v x) (set ys v y) (set ms v mark) tols k i j
+perm-put xs ys ms tols v k i j x y mark w =
+    perm-same xs ys ms (set xs v x) (set ys v y) (set ms v mark) tols k i j (λ q a b. other-put xs v q i j x (pos 0) w a b) (λ q a b. other-put ys v q i j y (pos 0) w a b)
+    (λ q a b. let e = other-put ms v q i j mark 0 w (le-of-lt a) (le-of-lt b) in (λ h. sym e ∙ h, λ h. e ∙ h))
+
+-- where no sample between is marked, as where none is at all
+pub perm-unmarked : (xs ys : List ℤ) (ms tols : List ℕ) (k i j : ℕ) → Unmarked ms i j → perm xs ys noMarks tols k i j ≡ perm xs ys ms tols k i j
+perm-unmarked xs ys ms tols k i j u =
+    perm-same xs ys noMarks xs ys ms tols k i j (λ q a b. refl) (λ q a b. refl) (λ q a b. (λ h. absurd (omega arith), λ h. absurd (u q a b h)))
+
+-- and where one is, no level permits the stretch
+pub perm-stops : (xs ys : List ℤ) (ms tols : List ℕ) (k i j q : ℕ) → Marked ms q → i < q → q < j → perm xs ys ms tols k i j ≡ false
+unfolding perm
+perm-stops xs ys ms tols k i j q = permits-stops xs ys ms i j (getD tols (k - 1) 0) q
 
 -- k is the finest level: no lower one permits the stretch, and every one from k on does
 pub finest-is : (perm : ℕ → ℕ → ℕ → Bool) (m i j k : ℕ) → ((l : ℕ) → 1 ≤ l → l < k → perm l i j ≡ false) → ((l : ℕ) → k ≤ l → l ≤ m → perm l i j ≡ true) → Finest perm m i j k
@@ -70,6 +91,10 @@ finest-is perm m i j k low high = record {
     | no y ↦ low l a (omega arith) ∙ sym (lt-leb k l (omega arith))
   ];
 }
+
+-- by permissions that say the same of the stretch, the same
+pub finest-same : {perm perm′ : ℕ → ℕ → ℕ → Bool} {m i j r : ℕ} → ((k : ℕ) → perm k i j ≡ perm′ k i j) → Finest perm m i j r → Finest perm′ m i j r
+finest-same e f = record { says = λ k a b. sym (e k) ∙ f .says k a b }
 
 -- of neighbours it is level 1
 pub finest-near : (perm : ℕ → ℕ → ℕ → Bool) → ((k i : ℕ) → perm k i (suc i) ≡ true) → (m i j r : ℕ) → Finest perm m i j r → suc i ≡ j → 1 ≤ m → r ≤ 1

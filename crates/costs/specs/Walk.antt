@@ -13,8 +13,8 @@ use Rattle.family.specs.Family.{value}
 use Rattle.table.specs.Table.{cell, Wrote}
 
 -- the test of a permission, which decides `Permit` (`perm-decided`)
-unfoldable pub perm : List ℤ → List ℤ → List ℕ → ℕ → ℕ → ℕ → Bool
-perm xs ys tols k i j = permits xs ys i j (getD tols (k - 1) 0)
+unfoldable pub perm : List ℤ → List ℤ → List ℕ → List ℕ → ℕ → ℕ → ℕ → Bool
+perm xs ys ms tols k i j = permits xs ys ms i j (getD tols (k - 1) 0)
 
 -- the tolerances of levels 1 to m rise, and none is above 65,536
 pub record Rising (tols : List ℕ) (m : ℕ) : Type 0 where

@@ -3,6 +3,7 @@ ghost use mathlib.Core.Path.{_≡_};
 ghost use Prim.Native.Nat.{ℕ, suc, _+_, _-_, _*_, _≤_, _<_, min};
 ghost use lib.ListN.{length, getD};
 ghost use Rattle.geometry.specs.Coordinate.{InRange};
+ghost use Rattle.geometry.specs.Mark.{noMarks};
 ghost use Rattle.family.specs.Family.{below};
 ghost use Rattle.table.specs.Table.{cell, Wrote};
 ghost use Rattle.table.specs.Path.{SumAt};
@@ -103,15 +104,15 @@ fn write_rows(
     count
 }
 
-// The finest level at which the stretch i to j is permitted, m + 1 where there is none.
+// The finest level at which the stretch i to j, with no marked sample between, is permitted; m + 1 where there is none.
 fn finest(xs: &[i16], ys: &[i16], tolerances: &[u32; 16], m: usize, i: usize, j: usize) -> usize
     requires { ⌜ (InRange (now xs) (j + 1)) × (InRange (now ys) (j + 1)) × (i < j) × (m ≤ 16) × (Rising (now tolerances) m) ⌝ }
-    ensures { λ r. ⌜ Finest (perm (now (xs .entry)) (now (ys .entry)) (now (tolerances .entry))) m i j r ⌝ }
+    ensures { λ r. ⌜ Finest (perm (now (xs .entry)) (now (ys .entry)) noMarks (now (tolerances .entry))) m i j r ⌝ }
 {
     let mut from = i + 1;
     let mut k = 1;
     while k <= m {
-        let verdict = geometry::judge(xs, ys, i, j, tolerances[k - 1], from);
+        let verdict = geometry::judge(xs, ys, i, j, tolerances[k - 1], from, j);
         let Verdict::No(spoiler) = verdict else {
             return k;
         };
@@ -121,21 +122,23 @@ fn finest(xs: &[i16], ys: &[i16], tolerances: &[u32; 16], m: usize, i: usize, j:
     k
 }
 
-// The finest levels of the stretches to j from the starts below top.
+// The finest levels of the stretches to j from the starts below top. Those from starts before the last marked sample pass over it, and have none.
 fn finests(
     xs: &[i16],
     ys: &[i16],
+    marks: &[u8],
     tolerances: &[u32; 16],
     m: usize,
     j: usize,
     top: usize,
 ) -> [usize; 256]
-    requires { ⌜ (InRange (now xs) (j + 1)) × (InRange (now ys) (j + 1)) × (top ≤ j) × (j < 256) × (m ≤ 16) × (Rising (now tolerances) m) ⌝ }
-    ensures { λ r. ⌜ ((i : ℕ) → i < top → Finest (perm (now (xs .entry)) (now (ys .entry)) (now (tolerances .entry))) m i j (getD r i 0)) ⌝ }
+    requires { ⌜ (InRange (now xs) (j + 1)) × (InRange (now ys) (j + 1)) × (j < length (now marks)) × (top ≤ j) × (j < 256) × (m ≤ 16) × (Rising (now tolerances) m) ⌝ }
+    ensures { λ r. ⌜ ((i : ℕ) → i < top → Finest (perm (now (xs .entry)) (now (ys .entry)) (now (marks .entry)) (now (tolerances .entry))) m i j (getD r i 0)) ⌝ }
 {
-    let mut levels: [usize; 256] = [0; 256];
+    let last = geometry::last_marked(marks, j);
+    let mut levels: [usize; 256] = [m + 1; 256];
     let mut i = top;
-    while 0 < i {
+    while last < i {
         i -= 1;
         let level = finest(xs, ys, tolerances, m, i, j);
         levels[i] = level;
@@ -156,6 +159,7 @@ fn write_end(
     table: &mut [u16],
     xs: &[i16],
     ys: &[i16],
+    marks: &[u8],
     tolerances: &[u32; 16],
     cap: usize,
     m: usize,
@@ -163,13 +167,13 @@ fn write_end(
     j: usize,
 ) -> usize
     requires { ⌜ (1 ≤ m) × (m ≤ 16) × (cap ≤ 256) × (v ≤ j) × (j < cap) × (Rising (now tolerances) m) ⌝ }
-    requires { ⌜ (InRange (now xs) (j + 1)) × (InRange (now ys) (j + 1)) × (m * (cap * cap) ≤ length (now table)) ⌝ }
+    requires { ⌜ (InRange (now xs) (j + 1)) × (InRange (now ys) (j + 1)) × (j < length (now marks)) × (m * (cap * cap) ≤ length (now table)) ⌝ }
     requires { ⌜ Settled (now table) cap m j (v + 1) ⌝ }
     ensures { λ r. ⌜ r ≡ m * min j (v + 1) ⌝ }
-    ensures { λ r. ⌜ Rewritten cap (perm (now (xs .entry)) (now (ys .entry)) (now (tolerances .entry))) (Rows m j (min j (v + 1))) (now (table .entry)) (now (table .exit)) ⌝ }
+    ensures { λ r. ⌜ Rewritten cap (perm (now (xs .entry)) (now (ys .entry)) (now (marks .entry)) (now (tolerances .entry))) (Rows m j (min j (v + 1))) (now (table .entry)) (now (table .exit)) ⌝ }
 {
     let top = starts(v, j);
-    let levels = finests(xs, ys, tolerances, m, j, top);
+    let levels = finests(xs, ys, marks, tolerances, m, j, top);
     write_rows(table, &levels, cap, m, j, top)
 }
 
@@ -178,6 +182,7 @@ pub fn rewrite(
     table: &mut [u16],
     xs: &[i16],
     ys: &[i16],
+    marks: &[u8],
     tolerances: &[u32; 16],
     cap: usize,
     m: usize,
@@ -185,15 +190,15 @@ pub fn rewrite(
     n: usize,
 ) -> usize
     requires { ⌜ (1 ≤ m) × (m ≤ 16) × (cap ≤ 256) × (v < n) × (n ≤ cap) × (Rising (now tolerances) m) ⌝ }
-    requires { ⌜ (InRange (now xs) n) × (InRange (now ys) n) × (m * (cap * cap) ≤ length (now table)) ⌝ }
+    requires { ⌜ (InRange (now xs) n) × (InRange (now ys) n) × (n ≤ length (now marks)) × (m * (cap * cap) ≤ length (now table)) ⌝ }
     requires { ⌜ LowSteps (now table) cap m v n ⌝ }
     ensures { λ r. ⌜ r ≡ named m v n ⌝ }
-    ensures { λ r. ⌜ Rewritten cap (perm (now (xs .entry)) (now (ys .entry)) (now (tolerances .entry))) (Named m v n) (now (table .entry)) (now (table .exit)) ⌝ }
+    ensures { λ r. ⌜ Rewritten cap (perm (now (xs .entry)) (now (ys .entry)) (now (marks .entry)) (now (tolerances .entry))) (Named m v n) (now (table .entry)) (now (table .exit)) ⌝ }
 {
     let mut count = 0;
     let mut j = v;
     while j < n {
-        count += write_end(table, xs, ys, tolerances, cap, m, v, j);
+        count += write_end(table, xs, ys, marks, tolerances, cap, m, v, j);
         j += 1;
     }
     count

@@ -1,17 +1,13 @@
 -- The marks of a stretch apart from its geometry: where none lies between, distances alone decide; the lowest marked sample spoils where none before it lies too far;
 -- and no stretch passes over a marked one. Assumes nothing.
-use mathlib.Core.Path.{_≡_, sym}
 use mathlib.Core.Logic.{⊎-elim}
-use mathlib.Core.Bool.{Bool, true, false}
 use mathlib.Core.List.{List}
 use Prim.Native.Nat.{ℕ, _+_, _≤_, _<_}
 use native.Mathlib.Omega.{arith}
 use lib.IntN.{ℤ}
-use Rattle.refusal.proofs.Plain.{decides-unique, no-decides}
-use Rattle.refusal.proofs.Rows.{first-passed}
 use Rattle.geometry.specs.declared.Verdict.{Verdict}
 use Rattle.geometry.specs.declared.Verdict.the-variants.{Yes, No}
-use Rattle.geometry.specs.Mark.{Mark, Marked, FirstMarked, marksOk}
+use Rattle.geometry.specs.Mark.{Marked, FirstMarked}
 use Rattle.geometry.specs.Near.{Along, Passable, Permitted}
 use Rattle.geometry.specs.Spoiler.{Clear, Spoiler, Told, Says}
 
@@ -22,6 +18,16 @@ Unmarked ms = Clear (λ k. Marked ms k → ⊥)
 module _ (xs ys : List ℤ) (ms : List ℕ) (i j e : ℕ) where
   pub passable-clear : {k : ℕ} → Unmarked ms i k → Clear (Along xs ys i j e) i k → Clear (Passable xs ys ms i j e) i k
   passable-clear u c l a b = (u l a b, c l a b)
+
+  -- a verdict by distance is one on the stretch
+  pub unmarked-says : Unmarked ms i j → (v : Verdict) → Told (Along xs ys i j e) i j v → Says xs ys ms i j e v
+  unmarked-says u Yes c = record { each = passable-clear u c }
+  unmarked-says u (No k) s = record {
+    after = s .after;
+    before = s .before;
+    spoils = λ p. s .spoils (p .1);
+    lowest = passable-clear (λ l a b. u l a (omega (arith, s .before))) (s .lowest);
+  }
 
   module _ {r : ℕ} (f : FirstMarked ms (i + 1) j r) where
     before : Unmarked ms i r

@@ -7,9 +7,10 @@ use Prim.Native.Nat.{ℕ, _+_, _-_, _≤_, _<_}
 use native.Mathlib.Omega.{arith}
 use borrow.Author.Needs.{needs}
 use lib.ListN.{getD}
+use Rattle.geometry.specs.Mark.{noMarks}
 use Rattle.geometry.specs.Near.{Along}
 use Rattle.geometry.specs.Spoiler.{Clear, isYes}
-use Rattle.geometry.proofs.Permits.{clear-wider}
+use Rattle.geometry.proofs.Permits.{along-wider}
 use Rattle.costs.specs.Walk.{perm}
 use Rattle.costs.proofs.Perm.{perm-judged, rising, perm-higher, finest-is}
 use Rattle.costs.proofs.finest.Statement.{statement}
@@ -17,7 +18,7 @@ use Rattle.costs.proofs.finest.Tie as tie
 
 abbrev Inv-loop : tie.InvT-loop
 Inv-loop xs ys tolerances m i j from₀ k₀ from k =
-    (1 ≤ k) × (k ≤ m + 1) × (i < from) × (from ≤ j) × ((l : ℕ) → 1 ≤ l → l < k → perm xs ys tolerances l i j ≡ false)
+    (1 ≤ k) × (k ≤ m + 1) × (i < from) × (from ≤ j) × ((l : ℕ) → 1 ≤ l → l < k → perm xs ys noMarks tolerances l i j ≡ false)
     × (k ≤ m → Clear (Along xs ys i j (getD tolerances (k - 1) 0)) i from)
 
 abbrev μ-loop : tie.MeasureT-loop
@@ -43,13 +44,13 @@ judge-requires c κs =
     let l = c .before .before in
     let p = l .before .pre in
     let d = l .loop .inv in
-    ((p .0, p .1, d .2, d .3, p .4 .small _ (omega arith)), d .5 (omega arith))
+    ((p .0, p .1, d .2, d .3, omega arith, p .4 .small _ (omega arith)), d .5 (omega arith))
 
 -- what the answer says of level k
 permits : (c : tie.After-judge Inv-loop μ-loop) →
     let l = c .before .before .before in
     let a = l .before .args in
-    perm (a .xs .now) (a .ys .now) (a .tolerances .now) (l .loop .k) (a .i) (a .j) ≡ isYes (c .judge .result)
+    perm (a .xs .now) (a .ys .now) noMarks (a .tolerances .now) (l .loop .k) (a .i) (a .j) ≡ isYes (c .judge .result)
 permits c =
     let l = c .before .before .before in
     let a = l .before .args in
@@ -67,7 +68,7 @@ returns c =
     let l = c .before .before .before .before .before in
     let p = l .before .pre in
     let y = rw (c .enum-told .given .1) at (permits (c .before .before)) in
-    finest-is _ _ _ _ _ (l .loop .inv .4) (λ q a b. perm-higher _ _ _ _ _ q _ _ (p .4) (l .loop .inv .0) a b y)
+    finest-is _ _ _ _ _ (l .loop .inv .4) (λ q a b. perm-higher _ _ _ _ _ _ q _ _ (p .4) (l .loop .inv .0) a b y)
 
 add-k : tie.Need-add-k Inv-loop μ-loop
 add-k c = omega arith
@@ -88,7 +89,7 @@ loop-again c =
       s .after,
       omega (arith, s .before),
       λ q x y. ⊎-elim (λ h. rw h n) (λ h. l .loop .inv .4 q x h) (eq-or-lt-of-le {m = l .loop .k} (omega arith)),
-      λ h. clear-wider (a .xs .now) (a .ys .now) (a .i) (a .j) _ (rising _ _ (p .4) (l .loop .k - 1) (l .loop .k + 1 - 1) (omega arith) (omega arith)) (s .lowest),
+      λ h. along-wider (a .xs .now) (a .ys .now) (a .i) (a .j) _ (rising _ _ (p .4) (l .loop .k - 1) (l .loop .k + 1 - 1) (omega arith) (omega arith)) (s .lowest),
     )
 
 returns-2 : tie.Need-returns-2 Inv-loop μ-loop

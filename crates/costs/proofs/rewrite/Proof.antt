@@ -14,11 +14,11 @@ use Rattle.costs.proofs.rewrite.Statement.{statement}
 use Rattle.costs.proofs.rewrite.Tie as tie
 
 abbrev Inv-loop : tie.InvT-loop
-Inv-loop table₀ xs ys tolerances cap m v n count₀ j₀ table count j =
-    Rewritten cap (perm xs ys tolerances) (Named m v j) table₀ table × (v ≤ j) × (j ≤ n) × (count ≡ named m v j)
+Inv-loop table₀ xs ys marks tolerances cap m v n count₀ j₀ table count j =
+    Rewritten cap (perm xs ys marks tolerances) (Named m v j) table₀ table × (v ≤ j) × (j ≤ n) × (count ≡ named m v j)
 
 abbrev μ-loop : tie.MeasureT-loop
-μ-loop table₀ xs ys tolerances cap m v n count₀ j₀ table count j = n - j
+μ-loop table₀ xs ys marks tolerances cap m v n count₀ j₀ table count j = n - j
 
 loop-holds : tie.Need-loop-holds Inv-loop μ-loop
 loop-holds c = (ends-none _ _ _ _ _, omega arith, omega arith, sym (named-none _ _))
@@ -26,19 +26,19 @@ loop-holds c = (ends-none _ _ _ _ _, omega arith, omega arith, sym (named-none _
 write-end-requires : tie.Need-write-end-requires Inv-loop μ-loop
 write-end-requires c κs =
     let l = c .before .before in
-    let a = l .before .before .args in
-    let p = l .before .before .pre in (
+    let a = l .before .before .before .args in
+    let p = l .before .before .before .pre in (
       (omega arith, omega arith, omega arith, omega arith, omega arith, p .0 .5),
       (
-        (fewer (omega arith) (p .1 .0 .0), fewer (omega arith) (p .1 .0 .1), rw (l .loop .inv .0 .same) (p .1 .0 .2)),
-        ends-settled (a .cap) (perm (a .xs .now) (a .ys .now) (a .tolerances .now)) (perm-adjacent _ _ _) (a .m) (a .v) (a .n) (l .loop .j) (a .table .now) (l .loop .table) (omega arith) (omega arith) (p .1 .1) (l .loop .inv .0),
+        (fewer (omega arith) (p .1 .0 .0), fewer (omega arith) (p .1 .0 .1), omega arith, rw (l .loop .inv .0 .same) (p .1 .0 .3)),
+        ends-settled (a .cap) (perm (a .xs .now) (a .ys .now) (a .marks .now) (a .tolerances .now)) (perm-adjacent _ _ _ _) (a .m) (a .v) (a .n) (l .loop .j) (a .table .now) (l .loop .table) (omega arith) (omega arith) (p .1 .1) (l .loop .inv .0),
       ),
     )
 
 add-count : tie.Need-add-count Inv-loop μ-loop
 add-count c =
     let l = c .before .before .before .before .before in
-    let a = l .before .before .args in
+    let a = l .before .before .before .args in
     omega (
       arith,
       l .loop .inv .3,
@@ -56,9 +56,9 @@ loop-less c = omega arith
 loop-again : tie.Need-loop-again Inv-loop μ-loop
 loop-again c =
     let l = c .before .before .before .before .before in
-    let a = l .before .before .args in
+    let a = l .before .before .before .args in
     let done = c .before .before .write-end .ensures in (
-      ends-more (a .cap) (perm (a .xs .now) (a .ys .now) (a .tolerances .now)) (a .m) (a .v) (a .table .now) (l .loop .j) (l .loop .table) _ (omega arith) (omega arith) (l .loop .inv .0) (done .1),
+      ends-more (a .cap) (perm (a .xs .now) (a .ys .now) (a .marks .now) (a .tolerances .now)) (a .m) (a .v) (a .table .now) (l .loop .j) (l .loop .table) _ (omega arith) (omega arith) (l .loop .inv .0) (done .1),
       omega arith,
       omega arith,
       rw (l .loop .inv .3, done .0) (named-more (a .m) (a .v) (l .loop .j) (omega arith)),
@@ -70,7 +70,7 @@ same-length c = c .before .loop .inv .0 .same
 returns : tie.Need-returns Inv-loop μ-loop
 returns c =
     let h = c .before .loop .inv in
-    let e : c .before .loop .j ≡ c .before .before .before .args .n = omega arith in
+    let e : c .before .loop .j ≡ c .before .before .before .before .args .n = omega arith in
     (rw e at (h .3), rw e at (h .0))
 
 pub rewrite-spec : {M : Type 1} → statement M
