@@ -5,9 +5,9 @@ use mathlib.Core.Bool.{Bool, true}
 use mathlib.Core.List.{List}
 use Prim.Native.Nat.{ℕ, suc, _*_, _≤_, _<_}
 use native.Mathlib.Omega.{arith}
-use lib.IntN.{ℤ}
-use lib.ListN.{length, set}
+use lib.ListN.{length}
 use Rattle.refusal.proofs.Plain.{decided}
+use Rattle.geometry.specs.Samples.{Sample, Samples, store}
 use Rattle.family.specs.Family.{value, after, Genuine}
 use Rattle.family.specs.Fine.{Fine, Checked}
 use Rattle.family.proofs.Checks.{room, checked-near, checked-by}
@@ -96,15 +96,15 @@ module _ (N m v n n′ : ℕ) (others : Others v n n′) (t : List ℕ) where
   pub put-steps : Checked (cell t N) m n → LowSteps t N m v n′
   put-steps checked k x a b h z = omega (arith, checked-near (cell t N) m n checked k x a b (held-end others x (suc x) (omega arith) h z))
 
-  module _ (xs ys : List ℤ) (ms tols : List ℕ) (e : List ℕ) (room : n′ ≤ N) where
+  module _ (xs : Samples) (tols : List ℕ) (e : List ℕ) (room : n′ ≤ N) where
     -- it holds again
-    pub put-checked : m ≤ 16 → N ≤ 256 → Checked (cell t N) m n → Rewritten N (perm xs ys ms tols) (Named m v n′) t e → Checked (cell e N) m n′
+    pub put-checked : m ≤ 16 → N ≤ 256 → Checked (cell t N) m n → Rewritten N (perm xs tols) (Named m v n′) t e → Checked (cell e N) m n′
     put-checked hm hN checked w =
-        rewritten-checked N (perm xs ys ms tols) m v n′ room t e w (perm-adjacent xs ys ms tols) hm (omega arith) (λ k i j a b o d z. checked k i j a b o (held-end others i j o d z))
+        rewritten-checked N (perm xs tols) m v n′ room t e w (perm-adjacent xs tols) hm (omega arith) (λ k i j a b o d z. checked k i j a b o (held-end others i j o d z))
 
-    pub put-genuine : (x y : ℤ) (mark : ℕ) → Rewritten N (perm (set xs v x) (set ys v y) (set ms v mark) tols) (Named m v n′) t e
-        → Genuine (perm xs ys ms tols) (cell t N) m n → Genuine (perm (set xs v x) (set ys v y) (set ms v mark) tols) (cell e N) m n′
+    pub put-genuine : (x : Sample) → Rewritten N (perm (store xs v x) tols) (Named m v n′) t e
+        → Genuine (perm xs tols) (cell t N) m n → Genuine (perm (store xs v x) tols) (cell e N) m n′
     unfolding Genuine
-    put-genuine x y mark w g =
-        rewritten-genuine N (perm (set xs v x) (set ys v y) (set ms v mark) tols) m v n′ room t e w (perm xs ys ms tols)
-        (λ k i j a b o d z. g k i j a b o (held-end others i j o d z)) (λ k i j a b o d z. perm-put xs ys ms tols v k i j x y mark z)
+    put-genuine x w g =
+        rewritten-genuine N (perm (store xs v x) tols) m v n′ room t e w (perm xs tols)
+        (λ k i j a b o d z. g k i j a b o (held-end others i j o d z)) (λ k i j a b o d z. perm-put xs tols v k i j x z)

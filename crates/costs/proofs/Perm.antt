@@ -15,35 +15,39 @@ use lib.ListN.{getD, set}
 use lib.Seq.{getD-set-other}
 use Rattle.refusal.specs.Check.{Decides}
 use Rattle.refusal.proofs.Plain.{decides-unique}
-use Rattle.geometry.specs.Coordinate.{InRange}
+use Rattle.geometry.specs.Coordinate.{InRange, Ranged}
 use Rattle.geometry.specs.declared.Verdict.{Verdict}
 use Rattle.geometry.specs.Mark.{Marked, noMarks}
 use Rattle.geometry.specs.Near.{Along}
+use Rattle.geometry.specs.Samples.{Sample, Samples, samples, store}
 use Rattle.geometry.specs.Spoiler.{Told, isYes}
 use Rattle.geometry.proofs.Marks.{Unmarked, unmarked-says}
 use Rattle.geometry.proofs.Spoiler.{says-decides, permits-decided}
-use Rattle.geometry.proofs.Permits.{permits-wider, permits-adjacent, permits-same, permits-stops, Same, SameMarks}
+use Rattle.geometry.proofs.Permits.{permits-wider, permits-adjacent, permits-same, permits-stops, Same}
 use Rattle.family.proofs.Local.{Without}
 use Rattle.costs.specs.Costs.{Permit}
 use Rattle.costs.specs.Walk.{perm, Rising, Finest}
 
-pub perm-decided : (xs ys : List ℤ) (ms tols : List ℕ) (k i j : ℕ) → InRange xs (j + 1) → InRange ys (j + 1) → i < j → Decides (Permit xs ys ms tols k i j) (perm xs ys ms tols k i j)
+pub perm-decided : (xs : Samples) (tols : List ℕ) (k i j : ℕ) → Ranged xs (j + 1) → i < j → Decides (Permit xs tols k i j) (perm xs tols k i j)
 unfolding perm
-perm-decided xs ys ms tols k i j a b o = permits-decided xs ys ms i j (getD tols (k - 1) 0) a b o
+perm-decided xs tols k i j a o = permits-decided xs i j (getD tols (k - 1) 0) a o
 
 -- where no sample is marked, the test is yes exactly when the verdict by distance is
 pub perm-judged : (xs ys : List ℤ) (tols : List ℕ) (k i j : ℕ) (v : Verdict) → InRange xs (j + 1) → InRange ys (j + 1) → i < j
-    → Told (Along xs ys i j (getD tols (k - 1) 0)) i j v → perm xs ys noMarks tols k i j ≡ isYes v
-perm-judged xs ys tols k i j v a b o s =
-    decides-unique (perm xs ys noMarks tols k i j) (isYes v) (perm-decided xs ys noMarks tols k i j a b o)
-    (says-decides xs ys noMarks i j (getD tols (k - 1) 0) v (unmarked-says xs ys noMarks i j (getD tols (k - 1) 0) (λ l x y h. none-is h) v s))
-  where
-    none-is : {A : Type 0} → _≡_ {A = ℕ} 0 1 → A
-    none-is h = absurd (omega arith)
-
-pub perm-adjacent : (xs ys : List ℤ) (ms tols : List ℕ) (k i : ℕ) → perm xs ys ms tols k i (suc i) ≡ true
+    → Told (Along xs ys i j (getD tols (k - 1) 0)) i j v → perm (samples xs ys noMarks) tols k i j ≡ isYes v
 unfolding perm
-perm-adjacent xs ys ms tols k i = permits-adjacent xs ys ms i (getD tols (k - 1) 0)
+perm-judged xs ys tols k i j v a b o s =
+    decides-unique _ (isYes v) (permits-decided xs′ i j e (record { across = a; upward = b }) o) (says-decides xs′ i j e v (unmarked-says xs′ i j e (λ l x y h. absurd (omega arith)) v s))
+  where
+    xs′ : Samples
+    xs′ = samples xs ys noMarks
+
+    e : ℕ
+    e = getD tols (k - 1) 0
+
+pub perm-adjacent : (xs : Samples) (tols : List ℕ) (k i : ℕ) → perm xs tols k i (suc i) ≡ true
+unfolding perm
+perm-adjacent xs tols k i = permits-adjacent xs i (getD tols (k - 1) 0)
 
 pub rising : (tols : List ℕ) (m : ℕ) → Rising tols m → (a b : ℕ) → a ≤ b → b < m → getD tols a 0 ≤ getD tols b 0
 rising tols m r a zero h g = let e : a ≡ zero = omega arith in rw e (le-refl _)
@@ -52,36 +56,37 @@ rising tols m r a (suc b) h g = elim (decLe a b) [
   | no y ↦ (let e : a ≡ suc b = omega arith in rw e (le-refl _))
 ]
 
-pub perm-higher : (xs ys : List ℤ) (ms tols : List ℕ) (m k l i j : ℕ) → Rising tols m → 1 ≤ k → k ≤ l → l ≤ m → perm xs ys ms tols k i j ≡ true → perm xs ys ms tols l i j ≡ true
+pub perm-higher : (xs : Samples) (tols : List ℕ) (m k l i j : ℕ) → Rising tols m → 1 ≤ k → k ≤ l → l ≤ m → perm xs tols k i j ≡ true → perm xs tols l i j ≡ true
 unfolding perm
-perm-higher xs ys ms tols m k l i j r a b d = permits-wider xs ys ms i j (rising tols m r (k - 1) (l - 1) (omega arith) (omega arith))
+perm-higher xs tols m k l i j r a b d = permits-wider xs i j (rising tols m r (k - 1) (l - 1) (omega arith) (omega arith))
 
 -- only the samples from i to j count, and the marks between
-pub perm-same : (xs ys : List ℤ) (ms : List ℕ) (vs ws : List ℤ) (ns tols : List ℕ) (k i j : ℕ) → Same xs vs i j → Same ys ws i j → SameMarks ms ns i j
-    → perm xs ys ms tols k i j ≡ perm vs ws ns tols k i j
+pub perm-same : (xs vs : Samples) (tols : List ℕ) (k i j : ℕ) → Same xs vs i j → perm xs tols k i j ≡ perm vs tols k i j
 unfolding perm
-perm-same xs ys ms vs ws ns tols k i j = permits-same xs ys ms vs ws ns i j (getD tols (k - 1) 0)
+perm-same xs vs tols k i j = permits-same xs vs i j (getD tols (k - 1) 0)
 
 -- a sample stored anew at v
 other-put : {A : Type 0} (s : List A) (v q i j : ℕ) (x d : A) → Without v i j → i ≤ q → q ≤ j → getD s q d ≡ getD (set s v x) q d
 other-put s v q i j x d (inl h) a b = sym (getD-set-other s v q x d (λ e. omega arith))
 other-put s v q i j x d (inr h) a b = sym (getD-set-other s v q x d (λ e. omega arith))
 
-pub perm-put : (xs ys : List ℤ) (ms tols : List ℕ) (v k i j : ℕ) (x y : ℤ) (mark : ℕ) → Without v i j
-    → perm xs ys ms tols k i j ≡ perm (set xs v x) (set ys v y) (set ms v mark) tols k i j
-perm-put xs ys ms tols v k i j x y mark w =
-    perm-same xs ys ms (set xs v x) (set ys v y) (set ms v mark) tols k i j (λ q a b. other-put xs v q i j x (pos 0) w a b) (λ q a b. other-put ys v q i j y (pos 0) w a b)
-    (λ q a b. let e = other-put ms v q i j mark 0 w (le-of-lt a) (le-of-lt b) in (λ h. sym e ∙ h, λ h. e ∙ h))
+pub perm-put : (xs : Samples) (tols : List ℕ) (v k i j : ℕ) (x : Sample) → Without v i j → perm xs tols k i j ≡ perm (store xs v x) tols k i j
+perm-put xs tols v k i j x w = perm-same xs (store xs v x) tols k i j (record {
+  across = λ q a b. other-put (xs .across) v q i j (x .across) (pos 0) w a b;
+  upward = λ q a b. other-put (xs .upward) v q i j (x .upward) (pos 0) w a b;
+  marks = λ q a b. let e = other-put (xs .marks) v q i j (x .mark) 0 w (le-of-lt a) (le-of-lt b) in (λ h. sym e ∙ h, λ h. e ∙ h);
+})
 
 -- where no sample between is marked, as where none is at all
-pub perm-unmarked : (xs ys : List ℤ) (ms tols : List ℕ) (k i j : ℕ) → Unmarked ms i j → perm xs ys noMarks tols k i j ≡ perm xs ys ms tols k i j
-perm-unmarked xs ys ms tols k i j u =
-    perm-same xs ys noMarks xs ys ms tols k i j (λ q a b. refl) (λ q a b. refl) (λ q a b. (λ h. absurd (omega arith), λ h. absurd (u q a b h)))
+pub perm-unmarked : (xs : Samples) (tols : List ℕ) (k i j : ℕ) → Unmarked (xs .marks) i j → perm (samples (xs .across) (xs .upward) noMarks) tols k i j ≡ perm xs tols k i j
+perm-unmarked xs tols k i j u =
+    perm-same (samples (xs .across) (xs .upward) noMarks) xs tols k i j
+    (record { across = λ q a b. refl; upward = λ q a b. refl; marks = λ q a b. (λ h. absurd (omega arith), λ h. absurd (u q a b h)) })
 
 -- and where one is, no level permits the stretch
-pub perm-stops : (xs ys : List ℤ) (ms tols : List ℕ) (k i j q : ℕ) → Marked ms q → i < q → q < j → perm xs ys ms tols k i j ≡ false
+pub perm-stops : (xs : Samples) (tols : List ℕ) (k i j q : ℕ) → Marked (xs .marks) q → i < q → q < j → perm xs tols k i j ≡ false
 unfolding perm
-perm-stops xs ys ms tols k i j q = permits-stops xs ys ms i j (getD tols (k - 1) 0) q
+perm-stops xs tols k i j q = permits-stops xs i j (getD tols (k - 1) 0) q
 
 -- k is the finest level: no lower one permits the stretch, and every one from k on does
 pub finest-is : (perm : ℕ → ℕ → ℕ → Bool) (m i j k : ℕ) → ((l : ℕ) → 1 ≤ l → l < k → perm l i j ≡ false) → ((l : ℕ) → k ≤ l → l ≤ m → perm l i j ≡ true) → Finest perm m i j k

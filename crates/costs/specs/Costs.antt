@@ -4,15 +4,15 @@ use mathlib.Core.Bool.{Bool, _&&_, cond}
 use mathlib.Core.List.{List}
 use Prim.Native.Nat.{ℕ, zero, suc, _+_, _-_, _≤_, _<_}
 use lib.Dec.{leb, ltb}
-use lib.IntN.{ℤ}
 use lib.ListN.{length, getD}
 use Rattle.geometry.specs.Near.{Permitted}
+use Rattle.geometry.specs.Samples.{Samples}
 use Rattle.family.specs.Path.{Written}
 use Rattle.table.specs.Table.{at, cell}
 
 -- the stretch i to j of the samples is permitted at the tolerance of level k
-abbrev pub Permit : List ℤ → List ℤ → List ℕ → List ℕ → ℕ → ℕ → ℕ → Type 0
-Permit xs ys ms tols k i j = Permitted xs ys ms i j (getD tols (k - 1) 0)
+abbrev pub Permit : Samples → List ℕ → ℕ → ℕ → ℕ → Type 0
+Permit xs tols k i j = Permitted xs i j (getD tols (k - 1) 0)
 
 -- the cells that a call about sample v names, of n samples at levels 1 to m: those of stretches with v
 abbrev pub Named : ℕ → ℕ → ℕ → ℕ → ℕ → ℕ → Type 0

@@ -5,16 +5,16 @@ use mathlib.Core.List.{List}
 use mathlib.Core.Logic.{_⊎_}
 use Prim.Native.Nat.{ℕ, suc, _+_, _-_, _≤_, _<_}
 use lib.Dec.{leb}
-use lib.IntN.{ℤ}
 use lib.ListN.{getD}
+use Rattle.geometry.specs.Samples.{Samples}
 use Rattle.geometry.specs.Test.{permits}
 use Rattle.family.specs.Lists.{none}
 use Rattle.family.specs.Family.{value}
 use Rattle.table.specs.Table.{cell, Wrote}
 
 -- the test of a permission, which decides `Permit` (`perm-decided`)
-unfoldable pub perm : List ℤ → List ℤ → List ℕ → List ℕ → ℕ → ℕ → ℕ → Bool
-perm xs ys ms tols k i j = permits xs ys ms i j (getD tols (k - 1) 0)
+unfoldable pub perm : Samples → List ℕ → ℕ → ℕ → ℕ → Bool
+perm xs tols k i j = permits xs i j (getD tols (k - 1) 0)
 
 -- the tolerances of levels 1 to m rise, and none is above 65,536
 pub record Rising (tols : List ℕ) (m : ℕ) : Type 0 where

@@ -2,8 +2,9 @@
 ghost use mathlib.Core.Path.{_≡_};
 ghost use Prim.Native.Nat.{ℕ, suc, _+_, _-_, _*_, _≤_, _<_, min};
 ghost use lib.ListN.{length, getD};
-ghost use Rattle.geometry.specs.Coordinate.{InRange};
+ghost use Rattle.geometry.specs.Coordinate.{InRange, Ranged};
 ghost use Rattle.geometry.specs.Mark.{noMarks};
+ghost use Rattle.geometry.specs.Samples.{samples};
 ghost use Rattle.family.specs.Family.{below};
 ghost use Rattle.table.specs.Table.{cell, Wrote};
 ghost use Rattle.table.specs.Path.{SumAt};
@@ -107,7 +108,7 @@ fn write_rows(
 // The finest level at which the stretch i to j, with no marked sample between, is permitted; m + 1 where there is none.
 fn finest(xs: &[i16], ys: &[i16], tolerances: &[u32; 16], m: usize, i: usize, j: usize) -> usize
     requires { ⌜ (InRange (now xs) (j + 1)) × (InRange (now ys) (j + 1)) × (i < j) × (m ≤ 16) × (Rising (now tolerances) m) ⌝ }
-    ensures { λ r. ⌜ Finest (perm (now (xs .entry)) (now (ys .entry)) noMarks (now (tolerances .entry))) m i j r ⌝ }
+    ensures { λ r. ⌜ Finest (perm (samples (now (xs .entry)) (now (ys .entry)) noMarks) (now (tolerances .entry))) m i j r ⌝ }
 {
     let mut from = i + 1;
     let mut k = 1;
@@ -132,8 +133,8 @@ fn finests(
     j: usize,
     top: usize,
 ) -> [usize; 256]
-    requires { ⌜ (InRange (now xs) (j + 1)) × (InRange (now ys) (j + 1)) × (j < length (now marks)) × (top ≤ j) × (j < 256) × (m ≤ 16) × (Rising (now tolerances) m) ⌝ }
-    ensures { λ r. ⌜ ((i : ℕ) → i < top → Finest (perm (now (xs .entry)) (now (ys .entry)) (now (marks .entry)) (now (tolerances .entry))) m i j (getD r i 0)) ⌝ }
+    requires { ⌜ (Ranged (samples (now xs) (now ys) (now marks)) (j + 1)) × (j < length (now marks)) × (top ≤ j) × (j < 256) × (m ≤ 16) × (Rising (now tolerances) m) ⌝ }
+    ensures { λ r. ⌜ ((i : ℕ) → i < top → Finest (perm (samples (now (xs .entry)) (now (ys .entry)) (now (marks .entry))) (now (tolerances .entry))) m i j (getD r i 0)) ⌝ }
 {
     let last = geometry::last_marked(marks, j);
     let mut levels: [usize; 256] = [m + 1; 256];
@@ -167,10 +168,10 @@ fn write_end(
     j: usize,
 ) -> usize
     requires { ⌜ (1 ≤ m) × (m ≤ 16) × (cap ≤ 256) × (v ≤ j) × (j < cap) × (Rising (now tolerances) m) ⌝ }
-    requires { ⌜ (InRange (now xs) (j + 1)) × (InRange (now ys) (j + 1)) × (j < length (now marks)) × (m * (cap * cap) ≤ length (now table)) ⌝ }
+    requires { ⌜ (Ranged (samples (now xs) (now ys) (now marks)) (j + 1)) × (j < length (now marks)) × (m * (cap * cap) ≤ length (now table)) ⌝ }
     requires { ⌜ Settled (now table) cap m j (v + 1) ⌝ }
     ensures { λ r. ⌜ r ≡ m * min j (v + 1) ⌝ }
-    ensures { λ r. ⌜ Rewritten cap (perm (now (xs .entry)) (now (ys .entry)) (now (marks .entry)) (now (tolerances .entry))) (Rows m j (min j (v + 1))) (now (table .entry)) (now (table .exit)) ⌝ }
+    ensures { λ r. ⌜ Rewritten cap (perm (samples (now (xs .entry)) (now (ys .entry)) (now (marks .entry))) (now (tolerances .entry))) (Rows m j (min j (v + 1))) (now (table .entry)) (now (table .exit)) ⌝ }
 {
     let top = starts(v, j);
     let levels = finests(xs, ys, marks, tolerances, m, j, top);
@@ -190,10 +191,10 @@ pub fn rewrite(
     n: usize,
 ) -> usize
     requires { ⌜ (1 ≤ m) × (m ≤ 16) × (cap ≤ 256) × (v < n) × (n ≤ cap) × (Rising (now tolerances) m) ⌝ }
-    requires { ⌜ (InRange (now xs) n) × (InRange (now ys) n) × (n ≤ length (now marks)) × (m * (cap * cap) ≤ length (now table)) ⌝ }
+    requires { ⌜ (Ranged (samples (now xs) (now ys) (now marks)) n) × (n ≤ length (now marks)) × (m * (cap * cap) ≤ length (now table)) ⌝ }
     requires { ⌜ LowSteps (now table) cap m v n ⌝ }
     ensures { λ r. ⌜ r ≡ named m v n ⌝ }
-    ensures { λ r. ⌜ Rewritten cap (perm (now (xs .entry)) (now (ys .entry)) (now (marks .entry)) (now (tolerances .entry))) (Named m v n) (now (table .entry)) (now (table .exit)) ⌝ }
+    ensures { λ r. ⌜ Rewritten cap (perm (samples (now (xs .entry)) (now (ys .entry)) (now (marks .entry))) (now (tolerances .entry))) (Named m v n) (now (table .entry)) (now (table .exit)) ⌝ }
 {
     let mut count = 0;
     let mut j = v;

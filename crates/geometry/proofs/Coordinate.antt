@@ -12,7 +12,8 @@ use mir.Val.{toZ, ofZ}
 use mir.Facts.{toZ-ofZ}
 use Rattle.refusal.specs.Check.{Decides}
 use Rattle.refusal.proofs.Plain.{by-test, all-decided}
-use Rattle.geometry.specs.Coordinate.{Coord, InRange, coordinateOk, coordinatesOk}
+use Rattle.geometry.specs.Coordinate.{Coord, InRange, Ranged, coordinateOk, coordinatesOk}
+use Rattle.geometry.specs.Samples.{Samples}
 
 pub coordinate-decided : (z : ℤ) → Decides (Coord z) (coordinateOk z)
 unfolding coordinateOk
@@ -28,6 +29,9 @@ in-range {s} {n} h t = record { held = h; each = coordinates-decided s n .right 
 
 pub fewer : {s : List ℤ} {m n : ℕ} → m ≤ n → InRange s n → InRange s m
 fewer h r = record { held = le-trans h (r .held); each = λ k l. r .each k (lt-of-lt-of-le l h) }
+
+pub fewer-ranged : {xs : Samples} {m n : ℕ} → m ≤ n → Ranged xs n → Ranged xs m
+fewer-ranged h r = record { across = fewer h (r .across); upward = fewer h (r .upward) }
 
 -- a coordinate that was handed on by its bits is tested as itself
 pub coordinate-back : {b : Bool} (z : ℤ) → mag z < 32768 → b ≡ coordinateOk (toZ w16 (ofZ w16 z)) → coordinateOk z ≡ b

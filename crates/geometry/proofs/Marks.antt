@@ -4,23 +4,23 @@ use mathlib.Core.Logic.{⊎-elim}
 use mathlib.Core.List.{List}
 use Prim.Native.Nat.{ℕ, _+_, _≤_, _<_}
 use native.Mathlib.Omega.{arith}
-use lib.IntN.{ℤ}
 use Rattle.geometry.specs.declared.Verdict.{Verdict}
 use Rattle.geometry.specs.declared.Verdict.the-variants.{Yes, No}
 use Rattle.geometry.specs.Mark.{Marked, FirstMarked}
 use Rattle.geometry.specs.Near.{Along, Passable, Permitted}
+use Rattle.geometry.specs.Samples.{Samples}
 use Rattle.geometry.specs.Spoiler.{Clear, Spoiler, Told, Says}
 
 -- no sample strictly between i and j is marked
 abbrev pub Unmarked : List ℕ → ℕ → ℕ → Type 0
 Unmarked ms = Clear (λ k. Marked ms k → ⊥)
 
-module _ (xs ys : List ℤ) (ms : List ℕ) (i j e : ℕ) where
-  pub passable-clear : {k : ℕ} → Unmarked ms i k → Clear (Along xs ys i j e) i k → Clear (Passable xs ys ms i j e) i k
+module _ (xs : Samples) (i j e : ℕ) where
+  pub passable-clear : {k : ℕ} → Unmarked (xs .marks) i k → Clear (Along (xs .across) (xs .upward) i j e) i k → Clear (Passable xs i j e) i k
   passable-clear u c l a b = (u l a b, c l a b)
 
   -- a verdict by distance is one on the stretch
-  pub unmarked-says : Unmarked ms i j → (v : Verdict) → Told (Along xs ys i j e) i j v → Says xs ys ms i j e v
+  pub unmarked-says : Unmarked (xs .marks) i j → (v : Verdict) → Told (Along (xs .across) (xs .upward) i j e) i j v → Says xs i j e v
   unmarked-says u Yes c = record { each = passable-clear u c }
   unmarked-says u (No k) s = record {
     after = s .after;
@@ -29,12 +29,12 @@ module _ (xs ys : List ℤ) (ms : List ℕ) (i j e : ℕ) where
     lowest = passable-clear (λ l a b. u l a (omega (arith, s .before))) (s .lowest);
   }
 
-  module _ {r : ℕ} (f : FirstMarked ms (i + 1) j r) where
-    before : Unmarked ms i r
+  module _ {r : ℕ} (f : FirstMarked (xs .marks) (i + 1) j r) where
+    before : Unmarked (xs .marks) i r
     before l a b = f .lowest l (omega arith) b
 
     -- what is said of the samples before the lowest marked one, where it is no, is said of the stretch
-    pub far-first : i < j → (k : ℕ) → Spoiler (Along xs ys i j e) i r k → Spoiler (Passable xs ys ms i j e) i j k
+    pub far-first : i < j → (k : ℕ) → Spoiler (Along (xs .across) (xs .upward) i j e) i r k → Spoiler (Passable xs i j e) i j k
     far-first o k s = record {
       after = s .after;
       before = ⊎-elim (λ t. omega (arith, s .before)) (λ t. omega (arith, s .before)) (f .there);
@@ -43,7 +43,7 @@ module _ (xs ys : List ℤ) (ms : List ℕ) (i j e : ℕ) where
     }
 
     -- where it is yes, that one spoils
-    pub marked-first : r < j → Clear (Along xs ys i j e) i r → Spoiler (Passable xs ys ms i j e) i j r
+    pub marked-first : r < j → Clear (Along (xs .across) (xs .upward) i j e) i r → Spoiler (Passable xs i j e) i j r
     marked-first h c = record {
       after = omega (arith, f .from);
       before = h;
@@ -52,5 +52,5 @@ module _ (xs ys : List ℤ) (ms : List ℕ) (i j e : ℕ) where
     }
 
     -- and where there is none the stretch is permitted
-    pub none-marked : j ≤ r → Clear (Along xs ys i j e) i r → Permitted xs ys ms i j e
+    pub none-marked : j ≤ r → Clear (Along (xs .across) (xs .upward) i j e) i r → Permitted xs i j e
     none-marked h c = record { each = passable-clear (λ l a b. before l a (omega arith)) (λ l a b. c l a (omega arith)) }

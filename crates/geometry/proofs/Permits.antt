@@ -12,6 +12,7 @@ use lib.ListN.{getD}
 use Rattle.refusal.proofs.Plain.{no-decides, carry, decides-true, decides-unique}
 use Rattle.geometry.specs.Mark.{Marked}
 use Rattle.geometry.specs.Near.{Near, Along, Passable, Permitted}
+use Rattle.geometry.specs.Samples.{Samples}
 use Rattle.geometry.specs.Shifted.{Close, NearAt}
 use Rattle.geometry.specs.Spoiler.{Clear}
 use Rattle.geometry.specs.Test.{moved, permits}
@@ -27,11 +28,11 @@ near-wider h n = record { s = n .s; r = n .r; along = n .along; whole = n .whole
 pub along-wider : (xs ys : List ℤ) (i j k : ℕ) {e f : ℕ} → e ≤ f → Clear (Along xs ys i j e) i k → Clear (Along xs ys i j f) i k
 along-wider xs ys i j k h c l a b = near-wider h (c l a b)
 
-pub permitted-wider : {xs ys : List ℤ} {ms : List ℕ} {i j e f : ℕ} → e ≤ f → Permitted xs ys ms i j e → Permitted xs ys ms i j f
+pub permitted-wider : {xs : Samples} {i j e f : ℕ} → e ≤ f → Permitted xs i j e → Permitted xs i j f
 permitted-wider h p = record { each = λ k a b. let q = p .each k a b in (q .0, near-wider h (q .1)) }
 
-pub permits-wider : (xs ys : List ℤ) (ms : List ℕ) (i j : ℕ) {e f : ℕ} → e ≤ f → permits xs ys ms i j e ≡ true → permits xs ys ms i j f ≡ true
-permits-wider xs ys ms i j {e} {f} h t = decides-true _ (permits-told xs ys ms i j f) (λ k a b. let p = permits-told xs ys ms i j e .right t k a b in (p .0, wider _ (p .1)))
+pub permits-wider : (xs : Samples) (i j : ℕ) {e f : ℕ} → e ≤ f → permits xs i j e ≡ true → permits xs i j f ≡ true
+permits-wider xs i j {e} {f} h t = decides-true _ (permits-told xs i j f) (λ k a b. let p = permits-told xs i j e .right t k a b in (p .0, wider _ (p .1)))
   where
     wider : (M : ℕ → ℕ → ℕ) → Close M (e * e) → Close M (f * f)
     wider M n = record { s = n .s; r = n .r; along = n .along; whole = n .whole; within = widen _ _ h (n .within) }
@@ -40,49 +41,50 @@ permits-wider xs ys ms i j {e} {f} h t = decides-true _ (permits-told xs ys ms i
 none : {A : Type 0} {i k : ℕ} → i < k → k < suc i → A
 none a b = let f : ⊥ = omega arith in absurd f
 
-pub permitted-adjacent : {xs ys : List ℤ} {ms : List ℕ} {i e : ℕ} → Permitted xs ys ms i (suc i) e
+pub permitted-adjacent : {xs : Samples} {i e : ℕ} → Permitted xs i (suc i) e
 permitted-adjacent = record { each = λ k a b. none a b }
 
-pub permits-adjacent : (xs ys : List ℤ) (ms : List ℕ) (i e : ℕ) → permits xs ys ms i (suc i) e ≡ true
-permits-adjacent xs ys ms i e = decides-true _ (permits-told xs ys ms i (suc i) e) (λ k a b. none a b)
+pub permits-adjacent : (xs : Samples) (i e : ℕ) → permits xs i (suc i) e ≡ true
+permits-adjacent xs i e = decides-true _ (permits-told xs i (suc i) e) (λ k a b. none a b)
 
--- two buffers agree from i to j; and two of marks on which samples strictly between are marked
-abbrev pub Same : List ℤ → List ℤ → ℕ → ℕ → Type 0
-Same xs vs i j = (k : ℕ) → i ≤ k → k ≤ j → getD xs k (pos 0) ≡ getD vs k (pos 0)
+-- the samples from i to j agree, and of their marks which of those strictly between are marked
+pub record Same (xs vs : Samples) (i j : ℕ) : Type 0 where
+  pub across : (k : ℕ) → i ≤ k → k ≤ j → getD (xs .across) k (pos 0) ≡ getD (vs .across) k (pos 0)
+  pub upward : (k : ℕ) → i ≤ k → k ≤ j → getD (xs .upward) k (pos 0) ≡ getD (vs .upward) k (pos 0)
+  pub marks : (k : ℕ) → i < k → k < j → Marked (xs .marks) k ↔ Marked (vs .marks) k
 
-abbrev pub SameMarks : List ℕ → List ℕ → ℕ → ℕ → Type 0
-SameMarks ms ns i j = (k : ℕ) → i < k → k < j → Marked ms k ↔ Marked ns k
+pub same-back : {xs vs : Samples} {i j : ℕ} → Same xs vs i j → Same vs xs i j
+same-back h = record { across = λ k a b. sym (h .across k a b); upward = λ k a b. sym (h .upward k a b); marks = λ k a b. (h .marks k a b .1, h .marks k a b .0) }
 
-module _ (xs ys : List ℤ) (ms : List ℕ) (vs ws : List ℤ) (ns : List ℕ) (i j : ℕ) (h : Same xs vs i j) (g : Same ys ws i j) (f : SameMarks ms ns i j) where
-  -- what is said of the two ends and of a sample between is said alike
+module _ (xs vs : Samples) (i j : ℕ) (h : Same xs vs i j) where
+  -- what is said of the two ends and of an unmarked sample between is said alike
   alike : (P : ℤ → ℤ → ℤ → ℤ → ℤ → ℤ → Type 0) (k : ℕ) → i < k → k < j
-      → (Marked ms k → ⊥) × P (getD xs i (pos 0)) (getD ys i (pos 0)) (getD xs j (pos 0)) (getD ys j (pos 0)) (getD xs k (pos 0)) (getD ys k (pos 0))
-      → (Marked ns k → ⊥) × P (getD vs i (pos 0)) (getD ws i (pos 0)) (getD vs j (pos 0)) (getD ws j (pos 0)) (getD vs k (pos 0)) (getD ws k (pos 0))
+      → (Marked (xs .marks) k → ⊥) × P (getD (xs .across) i (pos 0)) (getD (xs .upward) i (pos 0)) (getD (xs .across) j (pos 0)) (getD (xs .upward) j (pos 0)) (getD (xs .across) k (pos 0)) (getD (xs .upward) k (pos 0))
+      → (Marked (vs .marks) k → ⊥) × P (getD (vs .across) i (pos 0)) (getD (vs .upward) i (pos 0)) (getD (vs .across) j (pos 0)) (getD (vs .upward) j (pos 0)) (getD (vs .across) k (pos 0)) (getD (vs .upward) k (pos 0))
   alike P k a b p =
-      let o : i ≤ j = le-trans (le-of-lt a) (le-of-lt b) in
       let l = le-of-lt a in
       let r = le-of-lt b in
-      (λ q. p .0 (f k a b .1 q), rw (← h i (le-refl i) o, ← g i (le-refl i) o, ← h j o (le-refl j), ← g j o (le-refl j), ← h k l r, ← g k l r) (p .1))
+      let o : i ≤ j = le-trans l r in (
+        λ q. p .0 (h .marks k a b .1 q),
+        rw (← h .across i (le-refl i) o, ← h .upward i (le-refl i) o, ← h .across j o (le-refl j), ← h .upward j o (le-refl j), ← h .across k l r, ← h .upward k l r) (p .1),
+      )
 
-  pub passable-same : {e : ℕ} (k : ℕ) → i < k → k < j → Passable xs ys ms i j e k → Passable vs ws ns i j e k
+  pub passable-same : {e : ℕ} (k : ℕ) → i < k → k < j → Passable xs i j e k → Passable vs i j e k
   passable-same {e} = alike (λ ax ay bx by qx qy. Near ax ay bx by qx qy e)
 
-  pub permitted-same : {e : ℕ} → Permitted xs ys ms i j e → Permitted vs ws ns i j e
+  pub permitted-same : {e : ℕ} → Permitted xs i j e → Permitted vs i j e
   permitted-same p = record { each = λ k a b. passable-same k a b (p .each k a b) }
 
-  clear-same : (e : ℕ) → Clear (PassableAt xs ys ms i j e) i j → Clear (PassableAt vs ws ns i j e) i j
+  clear-same : (e : ℕ) → Clear (PassableAt xs i j e) i j → Clear (PassableAt vs i j e) i j
   clear-same e p k a b = alike (λ ax ay bx by qx qy. NearAt (moved ax) (moved ay) (moved bx) (moved by) (moved qx) (moved qy) (e * e)) k a b (p k a b)
 
-pub permits-same : (xs ys : List ℤ) (ms : List ℕ) (vs ws : List ℤ) (ns : List ℕ) (i j e : ℕ) → Same xs vs i j → Same ys ws i j → SameMarks ms ns i j
-    → permits xs ys ms i j e ≡ permits vs ws ns i j e
-permits-same xs ys ms vs ws ns i j e h g f =
-    decides-unique _ _ (permits-told xs ys ms i j e)
-    (carry (clear-same vs ws ns xs ys ms i j (λ k a b. sym (h k a b)) (λ k a b. sym (g k a b)) (λ k a b. (f k a b .1, f k a b .0)) e) (clear-same xs ys ms vs ws ns i j h g f e)
-    (permits-told vs ws ns i j e))
+pub permits-same : (xs vs : Samples) (i j e : ℕ) → Same xs vs i j → permits xs i j e ≡ permits vs i j e
+permits-same xs vs i j e h =
+    decides-unique _ _ (permits-told xs i j e) (carry (clear-same vs xs i j (same-back h) e) (clear-same xs vs i j h e) (permits-told vs i j e))
 
 -- at no tolerance is a stretch permitted that passes over a marked sample
-pub marked-stops : {xs ys : List ℤ} {ms : List ℕ} {i j e q : ℕ} → Marked ms q → i < q → q < j → Permitted xs ys ms i j e → ⊥
+pub marked-stops : {xs : Samples} {i j e q : ℕ} → Marked (xs .marks) q → i < q → q < j → Permitted xs i j e → ⊥
 marked-stops h a b p = p .each _ a b .0 h
 
-pub permits-stops : (xs ys : List ℤ) (ms : List ℕ) (i j e q : ℕ) → Marked ms q → i < q → q < j → permits xs ys ms i j e ≡ false
-permits-stops xs ys ms i j e q h a b = decides-unique _ _ (permits-told xs ys ms i j e) (no-decides (λ c. c q a b .0 h))
+pub permits-stops : (xs : Samples) (i j e q : ℕ) → Marked (xs .marks) q → i < q → q < j → permits xs i j e ≡ false
+permits-stops xs i j e q h a b = decides-unique _ _ (permits-told xs i j e) (no-decides (λ c. c q a b .0 h))

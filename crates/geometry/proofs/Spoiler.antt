@@ -8,15 +8,16 @@ use Prim.Native.Nat.{ℕ, zero, suc, _+_, _*_, _-_, _≤_, _<_}
 use native.Mathlib.Nat.{le-antisymm}
 use native.Mathlib.Decide.{decLt}
 use native.Mathlib.Omega.{arith}
-use lib.IntN.{ℤ, pos}
+use lib.IntN.{pos}
 use lib.ListN.{getD}
 use Rattle.refusal.specs.Check.{Decides}
 use Rattle.refusal.proofs.Plain.{yes-decides, no-decides, not-decided, by-equal, both-decided}
 use Rattle.geometry.specs.declared.Verdict.{Verdict}
 use Rattle.geometry.specs.declared.Verdict.the-variants.{Yes, No}
-use Rattle.geometry.specs.Coordinate.{InRange}
+use Rattle.geometry.specs.Coordinate.{Ranged}
 use Rattle.geometry.specs.Mark.{Marked, marked}
 use Rattle.geometry.specs.Near.{Passable, Permitted}
+use Rattle.geometry.specs.Samples.{Samples}
 use Rattle.geometry.specs.Shifted.{NearAt}
 use Rattle.geometry.specs.Spoiler.{Clear, Spoiler, Told, Says, isYes}
 use Rattle.geometry.specs.Test.{moved, lowest, judged, permits}
@@ -47,25 +48,25 @@ spoiler-carried f s = record {
 }
 
 -- ---- the answer
-pub spoiled : {xs ys : List ℤ} {ms : List ℕ} {i j e k : ℕ} → Spoiler (Passable xs ys ms i j e) i j k → Permitted xs ys ms i j e → ⊥
+pub spoiled : {xs : Samples} {i j e k : ℕ} → Spoiler (Passable xs i j e) i j k → Permitted xs i j e → ⊥
 spoiled s p = not-clear s (p .each)
 
-module _ (xs ys : List ℤ) (ms : List ℕ) (i j e : ℕ) where
+module _ (xs : Samples) (i j e : ℕ) where
   -- any two are equal
-  pub says-one : (v w : Verdict) → Says xs ys ms i j e v → Says xs ys ms i j e w → v ≡ w
+  pub says-one : (v w : Verdict) → Says xs i j e v → Says xs i j e w → v ≡ w
   says-one Yes Yes p q = refl
   says-one Yes (No k) p s = absurd (spoiled s p)
   says-one (No k) Yes s p = absurd (spoiled s p)
   says-one (No k) (No l) s t = ap No (spoiler-one s t)
 
   -- yes exactly when the stretch is permitted, and no with k exactly when k is the spoiler
-  pub says-yes : (v : Verdict) → Says xs ys ms i j e v → (v ≡ Yes) ↔ Permitted xs ys ms i j e
+  pub says-yes : (v : Verdict) → Says xs i j e v → (v ≡ Yes) ↔ Permitted xs i j e
   says-yes v s = (λ h. rw h at s, λ p. says-one v Yes s p)
 
-  pub says-no : (v : Verdict) (k : ℕ) → Says xs ys ms i j e v → (v ≡ No k) ↔ Spoiler (Passable xs ys ms i j e) i j k
+  pub says-no : (v : Verdict) (k : ℕ) → Says xs i j e v → (v ≡ No k) ↔ Spoiler (Passable xs i j e) i j k
   says-no v k s = (λ h. rw h at s, λ t. says-one v (No k) s t)
 
-  pub says-decides : (v : Verdict) → Says xs ys ms i j e v → Decides (Permitted xs ys ms i j e) (isYes v)
+  pub says-decides : (v : Verdict) → Says xs i j e v → Decides (Permitted xs i j e) (isYes v)
   says-decides Yes p = yes-decides p
   says-decides (No k) s = no-decides (spoiled s)
 
@@ -95,37 +96,38 @@ lowest-told P f i j (suc n) e d =
     (λ t. record { after = omega arith; before = omega arith; spoils = d (suc i) (omega arith) (omega arith) .wrong t; lowest = λ l a b. absurd (omega arith) })
 
 -- of any coordinates, about `Passable` of the coordinates moved
-abbrev pub PassableAt : List ℤ → List ℤ → List ℕ → ℕ → ℕ → ℕ → ℕ → Type 0
-PassableAt xs ys ms i j e k =
-    (Marked ms k → ⊥) × NearAt (moved (getD xs i (pos 0))) (moved (getD ys i (pos 0))) (moved (getD xs j (pos 0))) (moved (getD ys j (pos 0)))
-    (moved (getD xs k (pos 0))) (moved (getD ys k (pos 0))) (e * e)
+abbrev pub PassableAt : Samples → ℕ → ℕ → ℕ → ℕ → Type 0
+PassableAt xs i j e k =
+    (Marked (xs .marks) k → ⊥)
+    × NearAt (moved (getD (xs .across) i (pos 0))) (moved (getD (xs .upward) i (pos 0))) (moved (getD (xs .across) j (pos 0))) (moved (getD (xs .upward) j (pos 0)))
+    (moved (getD (xs .across) k (pos 0))) (moved (getD (xs .upward) k (pos 0))) (e * e)
 
-judged-told : (xs ys : List ℤ) (ms : List ℕ) (i j e : ℕ) → Told (PassableAt xs ys ms i j e) i j (judged xs ys ms i j e)
+judged-told : (xs : Samples) (i j e : ℕ) → Told (PassableAt xs i j e) i j (judged xs i j e)
 unfolding judged
-judged-told xs ys ms i j e = lowest-told (PassableAt xs ys ms i j e) _ i j (j - suc i) refl (λ k a b. unmarked-and ms k _ (reaches-decided _ _ _ _ _ _ (e * e)))
+judged-told xs i j e = lowest-told (PassableAt xs i j e) _ i j (j - suc i) refl (λ k a b. unmarked-and (xs .marks) k _ (reaches-decided _ _ _ _ _ _ (e * e)))
 
-pub permits-told : (xs ys : List ℤ) (ms : List ℕ) (i j e : ℕ) → Decides (Clear (PassableAt xs ys ms i j e) i j) (permits xs ys ms i j e)
+pub permits-told : (xs : Samples) (i j e : ℕ) → Decides (Clear (PassableAt xs i j e) i j) (permits xs i j e)
 unfolding permits
-permits-told xs ys ms i j e = by (judged xs ys ms i j e) (judged-told xs ys ms i j e)
+permits-told xs i j e = by (judged xs i j e) (judged-told xs i j e)
   where
-    by : (v : Verdict) → Told (PassableAt xs ys ms i j e) i j v → Decides (Clear (PassableAt xs ys ms i j e) i j) (isYes v)
+    by : (v : Verdict) → Told (PassableAt xs i j e) i j v → Decides (Clear (PassableAt xs i j e) i j) (isYes v)
     by Yes c = yes-decides c
     by (No k) s = no-decides (not-clear s)
 
 -- of coordinates in range, about the stretch
-pub judged-says : (xs ys : List ℤ) (ms : List ℕ) (i j e : ℕ) → InRange xs (j + 1) → InRange ys (j + 1) → i < j → Says xs ys ms i j e (judged xs ys ms i j e)
+pub judged-says : (xs : Samples) (i j e : ℕ) → Ranged xs (j + 1) → i < j → Says xs i j e (judged xs i j e)
 unfolding judged
-judged-says xs ys ms i j e h g o =
-    by (judged xs ys ms i j e)
-    (lowest-told (Passable xs ys ms i j e) _ i j (j - suc i) refl
+judged-says xs i j e h o =
+    by (judged xs i j e)
+    (lowest-told (Passable xs i j e) _ i j (j - suc i) refl
     (λ k a b.
-    unmarked-and ms k _ (decides-near (stands _ (h .each i (omega arith))) (stands _ (g .each i (omega arith))) (stands _ (h .each j (omega arith))) (stands _ (g .each j (omega arith)))
-    (stands _ (h .each k (omega arith))) (stands _ (g .each k (omega arith))) (reaches-decided _ _ _ _ _ _ (e * e)))))
+    unmarked-and (xs .marks) k _ (decides-near (stands _ (h .across .each i (omega arith))) (stands _ (h .upward .each i (omega arith))) (stands _ (h .across .each j (omega arith))) (stands _ (h .upward .each j (omega arith)))
+    (stands _ (h .across .each k (omega arith))) (stands _ (h .upward .each k (omega arith))) (reaches-decided _ _ _ _ _ _ (e * e)))))
   where
-    by : (v : Verdict) → Told (Passable xs ys ms i j e) i j v → Says xs ys ms i j e v
+    by : (v : Verdict) → Told (Passable xs i j e) i j v → Says xs i j e v
     by Yes c = record { each = c }
     by (No k) s = s
 
-pub permits-decided : (xs ys : List ℤ) (ms : List ℕ) (i j e : ℕ) → InRange xs (j + 1) → InRange ys (j + 1) → i < j → Decides (Permitted xs ys ms i j e) (permits xs ys ms i j e)
+pub permits-decided : (xs : Samples) (i j e : ℕ) → Ranged xs (j + 1) → i < j → Decides (Permitted xs i j e) (permits xs i j e)
 unfolding permits
-permits-decided xs ys ms i j e h g o = says-decides xs ys ms i j e (judged xs ys ms i j e) (judged-says xs ys ms i j e h g o)
+permits-decided xs i j e h o = says-decides xs i j e (judged xs i j e) (judged-says xs i j e h o)

@@ -1,6 +1,7 @@
 pub mod Coordinate
 pub mod Mark
 pub mod Near
+pub mod Samples
 pub mod Shifted
 pub mod Spoiler
 pub mod Test

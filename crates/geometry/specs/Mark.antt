@@ -1,8 +1,8 @@
--- The mark of a sample, 1 for the first of a new boot and else 0, in plain words and as the tests of checks 5 and 6. Assumes nothing.
+-- The mark of a sample, in plain words and as the tests of checks 5 and 6; and which samples are marked. Assumes nothing.
 use Prim.Native.Nat.{ℕ, _≤_, _<_}
 use mathlib.Core.Path.{_≡_}
-use mathlib.Core.Bool.{Bool}
 use mathlib.Core.Logic.{_⊎_}
+use mathlib.Core.Bool.{Bool}
 use mathlib.Core.List.{List, []}
 use lib.Dec.{leb, eqb}
 use lib.ListN.{getD}
@@ -10,11 +10,15 @@ use Rattle.refusal.specs.Check.{allBelow}
 
 -- 0 or 1
 abbrev pub Mark : ℕ → Type 0
-Mark b = b ≤ 1
+Mark mark = mark ≤ 1
 
 -- sample k is marked
 abbrev pub Marked : List ℕ → ℕ → Type 0
 Marked ms k = getD ms k 0 ≡ 1
+
+-- no sample is
+abbrev pub noMarks : List ℕ
+noMarks = []
 
 -- r is the lowest marked sample of those from a on and below j, or j where there is none
 pub record FirstMarked (ms : List ℕ) (a j r : ℕ) : Type 0 where
@@ -27,16 +31,12 @@ pub record LastMarked (ms : List ℕ) (j r : ℕ) : Type 0 where
   pub there : ((r < j) × Marked ms r) ⊎ (r ≡ 0)
   pub highest : (k : ℕ) → r < k → k < j → Marked ms k → ⊥
 
--- where no sample is marked
-abbrev pub noMarks : List ℕ
-noMarks = []
-
 -- the tests
-unfoldable pub marked : List ℕ → ℕ → Bool
-marked ms k = eqb (getD ms k 0) 1
-
 unfoldable pub markOk : ℕ → Bool
-markOk b = leb b 1
+markOk mark = leb mark 1
 
 unfoldable pub marksOk : List ℕ → ℕ → Bool
 marksOk ms n = allBelow n (λ k. markOk (getD ms k 0))
+
+unfoldable pub marked : List ℕ → ℕ → Bool
+marked ms k = eqb (getD ms k 0) 1

@@ -5,6 +5,7 @@ use lib.IntN.{ℤ, pos, _-ℤ_, _*ℤ_}
 use lib.ListN.{getD}
 use Rattle.algebra.specs.Parts.{sq}
 use Rattle.geometry.specs.Mark.{Marked}
+use Rattle.geometry.specs.Samples.{Samples}
 
 -- the squared length of r·(q - a) - s·(b - a)
 abbrev pub offset : ℤ → ℤ → ℤ → ℤ → ℤ → ℤ → ℕ → ℕ → ℕ
@@ -25,9 +26,9 @@ Along xs ys i j e k =
     Near (getD xs i (pos 0)) (getD ys i (pos 0)) (getD xs j (pos 0)) (getD ys j (pos 0)) (getD xs k (pos 0)) (getD ys k (pos 0)) e
 
 -- that segment may pass over sample k: it is not marked, and near
-abbrev pub Passable : List ℤ → List ℤ → List ℕ → ℕ → ℕ → ℕ → ℕ → Type 0
-Passable xs ys ms i j e k = (Marked ms k → ⊥) × Along xs ys i j e k
+abbrev pub Passable : Samples → ℕ → ℕ → ℕ → ℕ → Type 0
+Passable xs i j e k = (Marked (xs .marks) k → ⊥) × Along (xs .across) (xs .upward) i j e k
 
 -- and over each sample strictly between i and j; the marks of i and j do not count
-pub record Permitted (xs ys : List ℤ) (ms : List ℕ) (i j e : ℕ) : Type 0 where
-  pub each : (k : ℕ) → i < k → k < j → Passable xs ys ms i j e k
+pub record Permitted (xs : Samples) (i j e : ℕ) : Type 0 where
+  pub each : (k : ℕ) → i < k → k < j → Passable xs i j e k

@@ -1,11 +1,10 @@
 -- What a verdict says: yes of every sample in turn, or no with the lowest that spoils; of a whole stretch, whether it is permitted. Assumes nothing.
 use mathlib.Core.Bool.{Bool, true, false}
-use mathlib.Core.List.{List}
 use Prim.Native.Nat.{ℕ, _<_}
-use lib.IntN.{ℤ}
 use Rattle.geometry.specs.declared.Verdict.{Verdict}
 use Rattle.geometry.specs.declared.Verdict.the-variants.{Yes, No}
 use Rattle.geometry.specs.Near.{Passable, Permitted}
+use Rattle.geometry.specs.Samples.{Samples}
 
 -- each sample strictly between i and k is fine
 abbrev pub Clear : (ℕ → Type 0) → ℕ → ℕ → Type 0
@@ -24,9 +23,9 @@ Told Fine i j Yes = Clear Fine i j
 Told Fine i j (No k) = Spoiler Fine i j k
 
 -- and on the stretch from i to j: it is permitted, or k is the lowest sample that is marked or lies too far away
-abbrev pub Says : List ℤ → List ℤ → List ℕ → ℕ → ℕ → ℕ → Verdict → Type 0
-Says xs ys ms i j e Yes = Permitted xs ys ms i j e
-Says xs ys ms i j e (No k) = Spoiler (Passable xs ys ms i j e) i j k
+abbrev pub Says : Samples → ℕ → ℕ → ℕ → Verdict → Type 0
+Says xs i j e Yes = Permitted xs i j e
+Says xs i j e (No k) = Spoiler (Passable xs i j e) i j k
 
 -- whether an answer is yes
 abbrev pub isYes : Verdict → Bool

@@ -1,7 +1,6 @@
 -- The answer about a stretch, by computing: of an unmarked sample three cases, as the nearest point of the segment is its beginning, its end or between.
 -- Assumes nothing.
 use mathlib.Core.Bool.{Bool, _&&_, not, cond}
-use mathlib.Core.List.{List}
 use Prim.Native.Nat.{ℕ, zero, suc, _+_, _*_, _-_}
 use lib.Dec.{leb}
 use lib.IntN.{ℤ, pos, negsuc}
@@ -10,6 +9,7 @@ use Rattle.algebra.specs.Gap.{gap}
 use Rattle.geometry.specs.declared.Verdict.{Verdict}
 use Rattle.geometry.specs.declared.Verdict.the-variants.{Yes, No}
 use Rattle.geometry.specs.Mark.{marked}
+use Rattle.geometry.specs.Samples.{Samples}
 use Rattle.geometry.specs.Shifted.{apart}
 use Rattle.geometry.specs.Spoiler.{isYes}
 
@@ -48,14 +48,15 @@ lowest f k zero = Yes
 lowest f k (suc n) = cond (f k) (lowest f (suc k) n) (No k)
 
 -- the answer about the stretch from i to j at e
-unfoldable pub judged : List ℤ → List ℤ → List ℕ → ℕ → ℕ → ℕ → Verdict
-judged xs ys ms i j e =
+unfoldable pub judged : Samples → ℕ → ℕ → ℕ → Verdict
+judged xs i j e =
     lowest
     (λ k.
-    not (marked ms k) && reaches (moved (getD xs i (pos 0))) (moved (getD ys i (pos 0))) (moved (getD xs j (pos 0))) (moved (getD ys j (pos 0)))
-    (moved (getD xs k (pos 0))) (moved (getD ys k (pos 0))) (e * e))
+    not (marked (xs .marks) k)
+    && reaches (moved (getD (xs .across) i (pos 0))) (moved (getD (xs .upward) i (pos 0))) (moved (getD (xs .across) j (pos 0))) (moved (getD (xs .upward) j (pos 0)))
+    (moved (getD (xs .across) k (pos 0))) (moved (getD (xs .upward) k (pos 0))) (e * e))
     (suc i) (j - suc i)
 
 -- whether it is yes: the stretch is permitted
-unfoldable pub permits : List ℤ → List ℤ → List ℕ → ℕ → ℕ → ℕ → Bool
-permits xs ys ms i j e = isYes (judged xs ys ms i j e)
+unfoldable pub permits : Samples → ℕ → ℕ → ℕ → Bool
+permits xs i j e = isYes (judged xs i j e)

@@ -5,9 +5,10 @@ ghost use lib.IntN.{pos, natAbs, _-ℤ_};
 ghost use lib.ListN.{length, getD};
 ghost use Rattle.refusal.specs.Check.{Decides};
 ghost use Rattle.algebra.specs.Parts.{sq};
-ghost use Rattle.geometry.specs.Coordinate.{Coord, InRange, coordinateOk, coordinatesOk};
+ghost use Rattle.geometry.specs.Coordinate.{Coord, InRange, Ranged, coordinateOk, coordinatesOk};
 ghost use Rattle.geometry.specs.Mark.{FirstMarked, LastMarked, markOk, marksOk};
 ghost use Rattle.geometry.specs.Near.{Along};
+ghost use Rattle.geometry.specs.Samples.{samples};
 ghost use Rattle.geometry.specs.Spoiler.{Clear, Told, Says};
 ghost use Rattle.geometry.specs.Way.{Way, NearBy};
 
@@ -162,8 +163,8 @@ pub fn last_marked(marks: &[u8], j: usize) -> usize
 
 // Whether the stretch from sample i to sample j is permitted at tolerance e: yes, or no with the lowest sample that is marked or lies too far away.
 pub fn permitted(xs: &[i16], ys: &[i16], marks: &[u8], i: usize, j: usize, e: u32) -> Verdict
-    requires { ⌜ (InRange (now xs) (j + 1)) × (InRange (now ys) (j + 1)) × (j ≤ length (now marks)) × (i < j) × (e ≤ 65536) ⌝ }
-    ensures { λ r. ⌜ Says (now (xs .entry)) (now (ys .entry)) (now (marks .entry)) i j e r ⌝ }
+    requires { ⌜ (Ranged (samples (now xs) (now ys) (now marks)) (j + 1)) × (j ≤ length (now marks)) × (i < j) × (e ≤ 65536) ⌝ }
+    ensures { λ r. ⌜ Says (samples (now (xs .entry)) (now (ys .entry)) (now (marks .entry))) i j e r ⌝ }
 {
     let first = first_marked(marks, i + 1, j);
     let verdict = judge(xs, ys, i, j, e, i + 1, first);

@@ -11,6 +11,7 @@ use Rattle.geometry.specs.Mark.{noMarks}
 use Rattle.geometry.specs.Near.{Along}
 use Rattle.geometry.specs.Spoiler.{Clear, isYes}
 use Rattle.geometry.proofs.Permits.{along-wider}
+use Rattle.geometry.specs.Samples.{samples}
 use Rattle.costs.specs.Walk.{perm}
 use Rattle.costs.proofs.Perm.{perm-judged, rising, perm-higher, finest-is}
 use Rattle.costs.proofs.finest.Statement.{statement}
@@ -18,7 +19,7 @@ use Rattle.costs.proofs.finest.Tie as tie
 
 abbrev Inv-loop : tie.InvT-loop
 Inv-loop xs ys tolerances m i j from₀ k₀ from k =
-    (1 ≤ k) × (k ≤ m + 1) × (i < from) × (from ≤ j) × ((l : ℕ) → 1 ≤ l → l < k → perm xs ys noMarks tolerances l i j ≡ false)
+    (1 ≤ k) × (k ≤ m + 1) × (i < from) × (from ≤ j) × ((l : ℕ) → 1 ≤ l → l < k → perm (samples xs ys noMarks) tolerances l i j ≡ false)
     × (k ≤ m → Clear (Along xs ys i j (getD tolerances (k - 1) 0)) i from)
 
 abbrev μ-loop : tie.MeasureT-loop
@@ -50,7 +51,7 @@ judge-requires c κs =
 permits : (c : tie.After-judge Inv-loop μ-loop) →
     let l = c .before .before .before in
     let a = l .before .args in
-    perm (a .xs .now) (a .ys .now) noMarks (a .tolerances .now) (l .loop .k) (a .i) (a .j) ≡ isYes (c .judge .result)
+    perm (samples (a .xs .now) (a .ys .now) noMarks) (a .tolerances .now) (l .loop .k) (a .i) (a .j) ≡ isYes (c .judge .result)
 permits c =
     let l = c .before .before .before in
     let a = l .before .args in
@@ -68,7 +69,7 @@ returns c =
     let l = c .before .before .before .before .before in
     let p = l .before .pre in
     let y = rw (c .enum-told .given .1) at (permits (c .before .before)) in
-    finest-is _ _ _ _ _ (l .loop .inv .4) (λ q a b. perm-higher _ _ _ _ _ _ q _ _ (p .4) (l .loop .inv .0) a b y)
+    finest-is _ _ _ _ _ (l .loop .inv .4) (λ q a b. perm-higher _ _ _ _ q _ _ (p .4) (l .loop .inv .0) a b y)
 
 add-k : tie.Need-add-k Inv-loop μ-loop
 add-k c = omega arith

@@ -7,6 +7,7 @@ use native.Mathlib.Omega.{arith}
 use lib.ListN.{length, getD, length-set, getD-replicate}
 use lib.Seq.{getD-set-other}
 use Rattle.table.proofs.Stops.{filled}
+use Rattle.geometry.specs.Samples.{samples}
 use Rattle.costs.specs.Walk.{perm, Finest}
 use Rattle.costs.proofs.Perm.{perm-unmarked, perm-stops, finest-is, finest-same}
 use Rattle.costs.proofs.finests.Statement.{statement}
@@ -14,7 +15,7 @@ use Rattle.costs.proofs.finests.Tie as tie
 
 abbrev Inv-loop : tie.InvT-loop
 Inv-loop xs ys marks tolerances m j top last levels₀ i₀ levels i =
-    ((q : ℕ) → i ≤ q → q < top → Finest (perm xs ys marks tolerances) m q j (getD levels q 0)) × ((q : ℕ) → q < i → getD levels q 0 ≡ m + 1) × (i ≤ top) × (length levels ≡ 256)
+    ((q : ℕ) → i ≤ q → q < top → Finest (perm (samples xs ys marks) tolerances) m q j (getD levels q 0)) × ((q : ℕ) → q < i → getD levels q 0 ≡ m + 1) × (i ≤ top) × (length levels ≡ 256)
 
 abbrev μ-loop : tie.MeasureT-loop
 μ-loop xs ys marks tolerances m j top last levels₀ i₀ levels i = i
@@ -34,7 +35,7 @@ sub-i c = omega arith
 finest-requires : tie.Need-finest-requires Inv-loop μ-loop
 finest-requires c κs =
     let p = c .before .before .before .before .pre in
-    (p .0, p .1, omega arith, p .5, p .6)
+    (p .0 .across, p .0 .upward, omega arith, p .4, p .5)
 
 mul-levels : tie.Need-mul-levels Inv-loop μ-loop
 mul-levels c = omega arith
@@ -52,9 +53,9 @@ loop-again c =
     let d = l .before in
     let a = d .before .before .args in
     let u = d .last-marked .ensures .highest in (
-      filled (λ q s. Finest (perm (a .xs .now) (a .ys .now) (a .marks .now) (a .tolerances .now)) (a .m) q (a .j) s) (λ q. q < a .top) (l .loop .levels) (l .loop .i - 1) _ (omega arith)
-      (finest-same (λ k. perm-unmarked (a .xs .now) (a .ys .now) (a .marks .now) (a .tolerances .now) k (l .loop .i - 1) (a .j) (λ q x y. u q (omega arith) y)) (c .finest .ensures))
-      (λ q x y. l .loop .inv .0 q (omega arith) y),
+      filled (λ q s. Finest (perm (samples (a .xs .now) (a .ys .now) (a .marks .now)) (a .tolerances .now)) (a .m) q (a .j) s) (λ q. q < a .top) (l .loop .levels) (l .loop .i - 1) _ (omega arith)
+          (finest-same (λ k. perm-unmarked (samples (a .xs .now) (a .ys .now) (a .marks .now)) (a .tolerances .now) k (l .loop .i - 1) (a .j) (λ q x y. u q (omega arith) y)) (c .finest .ensures))
+          (λ q x y. l .loop .inv .0 q (omega arith) y),
       λ q h. getD-set-other (l .loop .levels) (l .loop .i - 1) q _ 0 (λ e. omega arith) ∙ l .loop .inv .1 q (omega arith),
       omega arith,
       simp length-set (l .loop .inv .3),
@@ -70,7 +71,7 @@ returns c =
       | yes y ↦ l .loop .inv .0 q y h
       | no y ↦ rw (l .loop .inv .1 q (omega arith)) (finest-is _ (a .m) q (a .j) (a .m + 1)
           (λ k x z. ⊎-elim
-          (λ t. perm-stops (a .xs .now) (a .ys .now) (a .marks .now) (a .tolerances .now) k q (a .j) (d .last-marked .result) (t .1) (omega arith) (t .0))
+          (λ t. perm-stops (samples (a .xs .now) (a .ys .now) (a .marks .now)) (a .tolerances .now) k q (a .j) (d .last-marked .result) (t .1) (omega arith) (t .0))
           (λ t. absurd (omega arith))
           (d .last-marked .ensures .there))
           (λ k x z. absurd (omega arith)))

@@ -4,8 +4,9 @@ use Prim.Native.Nat.{_+_, _-_, _≤_, min}
 use native.Mathlib.Omega.{arith}
 use native.Mathlib.Nat.{mul-le-mul}
 use Rattle.costs.specs.Costs.{Named, named}
+use Rattle.geometry.specs.Samples.{samples}
 use Rattle.costs.specs.Walk.{perm, Rewritten}
-use Rattle.geometry.proofs.Coordinate.{fewer}
+use Rattle.geometry.proofs.Coordinate.{fewer-ranged}
 use Rattle.costs.proofs.Perm.{perm-adjacent}
 use Rattle.costs.proofs.Rows.{ends-none, ends-more}
 use Rattle.costs.proofs.Sums.{ends-settled}
@@ -15,7 +16,7 @@ use Rattle.costs.proofs.rewrite.Tie as tie
 
 abbrev Inv-loop : tie.InvT-loop
 Inv-loop table₀ xs ys marks tolerances cap m v n count₀ j₀ table count j =
-    Rewritten cap (perm xs ys marks tolerances) (Named m v j) table₀ table × (v ≤ j) × (j ≤ n) × (count ≡ named m v j)
+    Rewritten cap (perm (samples xs ys marks) tolerances) (Named m v j) table₀ table × (v ≤ j) × (j ≤ n) × (count ≡ named m v j)
 
 abbrev μ-loop : tie.MeasureT-loop
 μ-loop table₀ xs ys marks tolerances cap m v n count₀ j₀ table count j = n - j
@@ -30,8 +31,8 @@ write-end-requires c κs =
     let p = l .before .before .before .pre in (
       (omega arith, omega arith, omega arith, omega arith, omega arith, p .0 .5),
       (
-        (fewer (omega arith) (p .1 .0 .0), fewer (omega arith) (p .1 .0 .1), omega arith, rw (l .loop .inv .0 .same) (p .1 .0 .3)),
-        ends-settled (a .cap) (perm (a .xs .now) (a .ys .now) (a .marks .now) (a .tolerances .now)) (perm-adjacent _ _ _ _) (a .m) (a .v) (a .n) (l .loop .j) (a .table .now) (l .loop .table) (omega arith) (omega arith) (p .1 .1) (l .loop .inv .0),
+        (fewer-ranged (omega arith) (p .1 .0 .0), omega arith, rw (l .loop .inv .0 .same) (p .1 .0 .2)),
+        ends-settled (a .cap) (perm (samples (a .xs .now) (a .ys .now) (a .marks .now)) (a .tolerances .now)) (perm-adjacent _ _) (a .m) (a .v) (a .n) (l .loop .j) (a .table .now) (l .loop .table) (omega arith) (omega arith) (p .1 .1) (l .loop .inv .0),
       ),
     )
 
@@ -58,7 +59,7 @@ loop-again c =
     let l = c .before .before .before .before .before in
     let a = l .before .before .before .args in
     let done = c .before .before .write-end .ensures in (
-      ends-more (a .cap) (perm (a .xs .now) (a .ys .now) (a .marks .now) (a .tolerances .now)) (a .m) (a .v) (a .table .now) (l .loop .j) (l .loop .table) _ (omega arith) (omega arith) (l .loop .inv .0) (done .1),
+      ends-more (a .cap) (perm (samples (a .xs .now) (a .ys .now) (a .marks .now)) (a .tolerances .now)) (a .m) (a .v) (a .table .now) (l .loop .j) (l .loop .table) _ (omega arith) (omega arith) (l .loop .inv .0) (done .1),
       omega arith,
       omega arith,
       rw (l .loop .inv .3, done .0) (named-more (a .m) (a .v) (l .loop .j) (omega arith)),

@@ -1,9 +1,10 @@
 -- `geometry::permitted` meets its contract. Assumes nothing.
 use mathlib.Core.Path.{_≡_}
 use mathlib.Core.Logic.{⊎-elim}
-use Prim.Native.Nat.{ℕ, _≤_}
+use Prim.Native.Nat.{_≤_}
 use native.Mathlib.Omega.{arith}
 use borrow.Author.Needs.{needs}
+use Rattle.geometry.specs.Samples.{samples}
 use Rattle.geometry.proofs.Marks.{far-first, marked-first, none-marked}
 use Rattle.geometry.proofs.permitted.Statement.{statement}
 use Rattle.geometry.proofs.permitted.Tie as tie
@@ -21,7 +22,7 @@ judge-requires : tie.Need-judge-requires
 judge-requires c κs =
     let p = c .before .before .pre in
     let f = c .first-marked .ensures in
-    ((p .0, p .1, omega arith, f .from, ⊎-elim (λ t. omega arith) (λ t. omega arith) (f .there), p .4), λ l a b. absurd (omega arith))
+    ((p .0 .across, p .0 .upward, omega arith, f .from, ⊎-elim (λ t. omega arith) (λ t. omega arith) (f .there), p .3), λ l a b. absurd (omega arith))
 
 enum-told : tie.Need-enum-told
 enum-told c = search needs
@@ -33,18 +34,18 @@ returns : tie.Need-returns
 returns c =
     let a = c .before .before .before .before .before .args in
     let g = c .enum-told2 .given in
-    rw (g .1) (far-first (a .xs .now) (a .ys .now) (a .marks .now) (a .i) (a .j) (a .e) (c .before .before .before .first-marked .ensures) (omega arith) (g .0 .0) (rw (g .1) at (c .before .before .judge .ensures)))
+    rw (g .1) (far-first (samples (a .xs .now) (a .ys .now) (a .marks .now)) (a .i) (a .j) (a .e) (c .before .before .before .first-marked .ensures) (omega arith) (g .0 .0) (rw (g .1) at (c .before .before .judge .ensures)))
 
 returns-2 : tie.Need-returns-2
 returns-2 c =
     let a = c .before .before .before .before .before .before .args in
-    marked-first (a .xs .now) (a .ys .now) (a .marks .now) (a .i) (a .j) (a .e) (c .before .before .before .before .first-marked .ensures) (omega arith)
+    marked-first (samples (a .xs .now) (a .ys .now) (a .marks .now)) (a .i) (a .j) (a .e) (c .before .before .before .before .first-marked .ensures) (omega arith)
     (rw (c .before .enum-told .given .1) at (c .before .before .before .judge .ensures))
 
 returns-3 : tie.Need-returns-3
 returns-3 c =
     let a = c .before .before .before .before .before .before .args in
-    none-marked (a .xs .now) (a .ys .now) (a .marks .now) (a .i) (a .j) (a .e) (c .before .before .before .before .first-marked .ensures) (omega arith)
+    none-marked (samples (a .xs .now) (a .ys .now) (a .marks .now)) (a .i) (a .j) (a .e) (c .before .before .before .before .first-marked .ensures) (omega arith)
     (rw (c .before .enum-told .given .1) at (c .before .before .before .judge .ensures))
 
 pub permitted-spec : {M : Type 1} → statement M
