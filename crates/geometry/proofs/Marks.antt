@@ -1,15 +1,27 @@
--- The marks of a stretch apart from its geometry: where none lies between, distances alone decide; the lowest marked sample spoils where none before it lies too far;
+-- The tests of marks; and the marks of a stretch apart from its geometry: where none lies between, distances alone decide; the lowest marked sample spoils where none before it lies too far;
 -- and no stretch passes over a marked one. Assumes nothing.
 use mathlib.Core.Logic.{⊎-elim}
 use mathlib.Core.List.{List}
 use Prim.Native.Nat.{ℕ, _+_, _≤_, _<_}
 use native.Mathlib.Omega.{arith}
+use lib.ListN.{getD}
+use Rattle.refusal.specs.Check.{Decides}
+use Rattle.refusal.proofs.Plain.{by-order, all-decided}
 use Rattle.geometry.specs.declared.Verdict.{Verdict}
 use Rattle.geometry.specs.declared.Verdict.the-variants.{Yes, No}
-use Rattle.geometry.specs.Mark.{Marked, FirstMarked}
+use Rattle.geometry.specs.Mark.{Mark, Marked, FirstMarked, markOk, marksOk}
 use Rattle.geometry.specs.Near.{Along, Passable, Permitted}
 use Rattle.geometry.specs.Samples.{Samples}
 use Rattle.geometry.specs.Spoiler.{Clear, Spoiler, Told, Says}
+
+-- the tests of marks decide what they are named for
+pub mark-decided : (mark : ℕ) → Decides (Mark mark) (markOk mark)
+unfolding markOk
+mark-decided mark = by-order mark 1
+
+pub marks-decided : (ms : List ℕ) (n : ℕ) → Decides ((k : ℕ) → k < n → Mark (getD ms k 0)) (marksOk ms n)
+unfolding marksOk
+marks-decided ms n = all-decided _ _ n (λ k l. mark-decided (getD ms k 0))
 
 -- no sample strictly between i and j is marked
 abbrev pub Unmarked : List ℕ → ℕ → ℕ → Type 0

@@ -3,13 +3,12 @@ use mathlib.Core.Path.{_≡_, refl, sym, ap, _∙_}
 use mathlib.Core.List.{List}
 use Prim.Native.Nat.{ℕ, _≤_, _<_}
 use native.Mathlib.Omega.{arith}
-use lib.IntN.{ℤ}
-use lib.ListN.{set}
 use Rattle.refusal.specs.declared.Refusal.{Refusal}
 use Rattle.refusal.specs.declared.Outcome.{Outcome}
 use Rattle.refusal.specs.declared.Outcome.the-variants.{Done, Refused}
 use Rattle.refusal.specs.Number.{code}
 use Rattle.refusal.proofs.Rows.{numbered}
+use Rattle.geometry.specs.Samples.{Sample, Samples, store}
 use Rattle.family.specs.Fine.{Fine}
 use Rattle.family.proofs.Local.{Without}
 use Rattle.table.specs.Table.{cell}
@@ -30,26 +29,26 @@ pub done-refused : {A : Type 0} {o : Outcome} {why : Refusal} → o ≡ Done →
 done-refused {why = why} h g = absurd (numbered why (ap code (sym g ∙ h)))
 
 -- buffers are their parts
-pub buffers-is : {b : Buffers} {xs ys : List ℤ} {t : List ℕ} → b .across ≡ xs → b .upward ≡ ys → b .table ≡ t → b ≡ buffers xs ys t
-buffers-is {b} {xs} {ys} {t} p q u = let f : buffers (b .across) (b .upward) (b .table) ≡ buffers xs ys t = cc in f
+pub buffers-is : {b : Buffers} {xs : Samples} {t : List ℕ} → b .samples ≡ xs → b .table ≡ t → b ≡ buffers xs t
+buffers-is {b} {xs} {t} p q = let f : buffers (b .samples) (b .table) ≡ buffers xs t = cc in f
 
 -- what is known where the change of sample v, of n samples after it, is not refused: all that it asks, and that the cells of stretches without v pass check 5
-pub record Able (a : Trace) (b : Buffers) (v n : ℕ) (x y : ℤ) : Type 0 where
-  pub ready : Ready a (b .across) (b .upward) (b .table) v n x y
+pub record Able (a : Trace) (b : Buffers) (v n : ℕ) (x : Sample) : Type 0 where
+  pub ready : Ready a (b .samples) (b .table) v n x
   pub fine : (k i j : ℕ) → 1 ≤ k → k ≤ a .levels → i < j → j < n → Without v i j → Fine k i j (cell (b .table) (a .capacity) k i j)
 
-pub put-able : (a : Trace) (b : Buffers) (v : ℕ) (x y : ℤ) → PutNumber a (b .across) (b .upward) (b .table) v x y 0 → Able a b v (heldWith (a .held) v) x y
-put-able a b v x y h =
-    let p = put-passed a (b .across) (b .upward) (b .table) v x y h in
+pub put-able : (a : Trace) (b : Buffers) (v : ℕ) (x : Sample) → PutNumber a (b .samples) (b .table) v x 0 → Able a b v (heldWith (a .held) v) x
+put-able a b v x h =
+    let p = put-passed a (b .samples) (b .table) v x h in
     record {
-      ready = put-ready a (b .across) (b .upward) (b .table) v x y h;
-      fine = λ k i j l m o d w. p .1 .cells k i j l m o (held-end (held-others (a .held) v (p .4)) i j o d w);
+      ready = put-ready a (b .samples) (b .table) v x h;
+      fine = λ k i j l m o d w. p .1 .cells k i j l m o (held-end (held-others (a .held) v (p .3)) i j o d w);
     }
 
-module _ {a : Trace} {b : Buffers} {v : ℕ} {x y : ℤ} where
+module _ {a : Trace} {b : Buffers} {v : ℕ} {x : Sample} where
   -- the checks refuse, and nothing is written
-  pub refused-gives : {o : Outcome} {why : Refusal} → PutNumber a (b .across) (b .upward) (b .table) v x y (code o) → o ≡ Refused why
-      → PutGives a b v x y (record { outcome = o; trace = a; cells = 0 }) b
+  pub refused-gives : {o : Outcome} {why : Refusal} → PutNumber a (b .samples) (b .table) v x (code o) → o ≡ Refused why
+      → PutGives a b v x (record { outcome = o; trace = a; cells = 0 }) b
   refused-gives h g = record {
     number = h;
     done = λ d. done-refused d g;
@@ -57,25 +56,25 @@ module _ {a : Trace} {b : Buffers} {v : ℕ} {x y : ℤ} where
   }
 
   -- the sample is put
-  pub changed-gives : {r : Changed} {e : Buffers} → PutNumber a (b .across) (b .upward) (b .table) v x y 0
-      → Changes a (b .across) (b .upward) (b .table) v (heldWith (a .held) v) x y r (e .across) (e .upward) (e .table) → PutGives a b v x y r e
+  pub changed-gives : {r : Changed} {e : Buffers} → PutNumber a (b .samples) (b .table) v x 0
+      → Changes a (b .samples) (b .table) v (heldWith (a .held) v) x r (e .samples) (e .table) → PutGives a b v x r e
   changed-gives {r} {e} h C =
-      let A = put-able a b v x y h in
+      let A = put-able a b v x h in
       let R = A .ready in
       let z = R .sizes in
-      let w = rewritten-cells (a .capacity) (set (b .across) v x) (set (b .upward) v y) (a .tolerances) (a .levels) v (heldWith (a .held) v) (b .table)
-      (z .1) (omega arith) (z .4) (R .across) (R .upward) (A .fine) (e .table) (C .cells) in
+      let w = rewritten-cells (a .capacity) (store (b .samples) v x) (a .tolerances) (a .levels) v (heldWith (a .held) v) (b .table)
+      (z .1) (omega arith) (z .4) (R .ranged) (A .fine) (e .table) (C .cells) in
       record {
         number = rw (C .outcome) h;
-        done = λ d. record { trace = C .trace; across = C .across; upward = C .upward; cells = rw (C .across, C .upward) w; count = C .count };
+        done = λ d. record { trace = C .trace; samples = C .samples; cells = rw (C .samples) w; count = C .count };
         refused = λ w g. done-refused (C .outcome) g;
       }
 
 -- and back: what a change of sample v leaves in the table is what the walk leaves
-pub put-rewritten : {a : Trace} {b e : Buffers} {v n : ℕ} {x y : ℤ} {r : Changed} → Able a b v n x y → Put a b v n x y r e
-    → Rewritten (a .capacity) (perm (set (b .across) v x) (set (b .upward) v y) (a .tolerances)) (Named (a .levels) v n) (b .table) (e .table)
-put-rewritten {a} {b} {e} {v} {n} {x} {y} A P =
+pub put-rewritten : {a : Trace} {b e : Buffers} {v n : ℕ} {x : Sample} {r : Changed} → Able a b v n x → Put a b v n x r e
+    → Rewritten (a .capacity) (perm (store (b .samples) v x) (a .tolerances)) (Named (a .levels) v n) (b .table) (e .table)
+put-rewritten {a} {b} {e} {v} {n} {x} A P =
     let R = A .ready in
     let z = R .sizes in
-    cells-rewritten (a .capacity) (set (b .across) v x) (set (b .upward) v y) (a .tolerances) (a .levels) v n (b .table) (z .1) (omega arith) (z .4) (R .across) (R .upward) (A .fine)
-    (e .table) (rw (P .across, P .upward) at (P .cells))
+    cells-rewritten (a .capacity) (store (b .samples) v x) (a .tolerances) (a .levels) v n (b .table) (z .1) (omega arith) (z .4) (R .ranged) (A .fine)
+    (e .table) (rw (P .samples) at (P .cells))

@@ -16,18 +16,18 @@ unfolding setupOutcome
 setup-done m N tols h = setup-decided m N .right (unless-done (setupOk m N) _ (then-done _ _ h .0))
 
 -- what checks 1 to 4 have shown
-pub record Lent (a : Trace) (levels xs ys cells bytes : ℕ) : Type 0 where
+pub record Lent (a : Trace) (levels xs ys marks cells bytes : ℕ) : Type 0 where
   pub sized : Sized (a .levels) (a .capacity)
-  pub long : (a .capacity ≤ xs) × (a .capacity ≤ ys) × (levels * (a .capacity * a .capacity) ≤ cells) × (a .held ≤ bytes)
+  pub long : (a .capacity ≤ xs) × (a .capacity ≤ ys) × (a .capacity ≤ marks) × (levels * (a .capacity * a .capacity) ≤ cells) × (a .held ≤ bytes)
   pub held : a .held ≤ a .capacity
 
-pub lent-done : (a : Trace) (levels xs ys cells bytes : ℕ) → lentOutcome a levels xs ys cells bytes ≡ Done → Lent a levels xs ys cells bytes
+pub lent-done : (a : Trace) (levels xs ys marks cells bytes : ℕ) → lentOutcome a levels xs ys marks cells bytes ≡ Done → Lent a levels xs ys marks cells bytes
 unfolding lentOutcome
-lent-done a levels xs ys cells bytes h =
+lent-done a levels xs ys marks cells bytes h =
     let s = then-done (setupOutcome (a .levels) (a .capacity) (a .tolerances)) _ h in
     let l = then-done _ _ (s .1) in
     record {
       sized = setup-done (a .levels) (a .capacity) (a .tolerances) (s .0);
-      long = lent-decided a levels xs ys cells bytes .right (unless-done (lentOk a levels xs ys cells bytes) _ (l .0));
+      long = lent-decided a levels xs ys marks cells bytes .right (unless-done (lentOk a levels xs ys marks cells bytes) _ (l .0));
       held = leb-true (a .held) (a .capacity) (unless-done (leb (a .held) (a .capacity)) _ (l .1));
     }

@@ -7,17 +7,17 @@ use Prim.Native.Nat.{ℕ, zero, suc, _*_, _≤_, _<_}
 use native.Mathlib.Nat.{lt-of-not-le}
 use native.Mathlib.Numerals.{add-one}
 use native.Mathlib.Omega.{arith}
-use lib.IntN.{ℤ}
 use lib.ListN.{length, getD}
 use borrow.Author.Tests.{leb-false, ltb-false}
 use Rattle.refusal.specs.Check.{Decides, from-to}
 use Rattle.refusal.proofs.Laws.{and-fails}
 use Rattle.refusal.proofs.Plain.{carry, by-less, by-order, both-decided, from-to-decided, all-decided}
-use Rattle.geometry.specs.Coordinate.{Coord}
+use Rattle.geometry.specs.Samples.{Sample, Samples}
 use Rattle.geometry.proofs.Coordinate.{coordinate-decided, coordinates-decided}
+use Rattle.geometry.proofs.Marks.{mark-decided, marks-decided}
 use Rattle.table.proofs.Check.{cells-decided}
 use Rattle.trace.specs.declared.Trace.{Trace}
-use Rattle.trace.specs.Numbers.{Sized, Tolerances, LentSamples, LentTable, StoredSamples, StoredCells, Absent}
+use Rattle.trace.specs.Numbers.{Sized, Tolerances, Valid, LentSamples, LentTable, StoredSamples, StoredCells, Absent}
 use Rattle.trace.specs.Rows.{before, toleranceOk, setupOk, tolerancesOk, lentOk, samplesOk, storedOk, sampleOk, stretchOk}
 
 pub setup-decided : (m N : ℕ) → Decides (Sized m N) (setupOk m N)
@@ -39,42 +39,45 @@ tolerances-decided m tols =
     above T zero h = T .low 0 h
     above T (suc l) h = rw (add-one l) at (T .rise l (omega arith))
 
-pub lent-decided : (a : Trace) (levels xs ys cells bytes : ℕ)
-    → Decides ((a .capacity ≤ xs) × (a .capacity ≤ ys) × (levels * (a .capacity * a .capacity) ≤ cells) × (a .held ≤ bytes)) (lentOk a levels xs ys cells bytes)
+pub lent-decided : (a : Trace) (levels xs ys marks cells bytes : ℕ)
+    → Decides ((a .capacity ≤ xs) × (a .capacity ≤ ys) × (a .capacity ≤ marks) × (levels * (a .capacity * a .capacity) ≤ cells) × (a .held ≤ bytes)) (lentOk a levels xs ys marks cells bytes)
 unfolding lentOk
-lent-decided a levels xs ys cells bytes =
-    carry (λ p. (p .0, p .1 .0, p .1 .1 .0, p .1 .1 .1)) (λ p. (p .0, (p .1, (p .2, p .3))))
+lent-decided a levels xs ys marks cells bytes =
+    carry (λ p. (p .0, p .1 .0, p .1 .1 .0, p .1 .1 .1 .0, p .1 .1 .1 .1)) (λ p. (p .0, (p .1, (p .2, (p .3, p .4)))))
     (both-decided _ _ (by-order (a .capacity) xs)
     (both-decided _ _ (by-order (a .capacity) ys)
-    (both-decided _ _ (by-order (levels * (a .capacity * a .capacity)) cells) (by-order (a .held) bytes))))
+    (both-decided _ _ (by-order (a .capacity) marks)
+    (both-decided _ _ (by-order (levels * (a .capacity * a .capacity)) cells) (by-order (a .held) bytes)))))
 
 -- the samples alone; with the table; with the table and the ranks
-pub lent-samples : (a : Trace) (xs ys : List ℤ) → Decides (LentSamples a xs ys) (lentOk a 0 (length xs) (length ys) 0 (a .held))
-lent-samples a xs ys = carry (λ p. (p .0, p .1)) (λ p. (p .0, p .1, omega arith, omega arith)) (lent-decided a 0 (length xs) (length ys) 0 (a .held))
+pub lent-samples : (a : Trace) (xs : Samples) → Decides (LentSamples a xs) (lentOk a 0 (length (xs .across)) (length (xs .upward)) (length (xs .marks)) 0 (a .held))
+lent-samples a xs = carry (λ p. (p .0, p .1, p .2)) (λ p. (p .0, p .1, p .2, omega arith, omega arith)) (lent-decided a 0 (length (xs .across)) (length (xs .upward)) (length (xs .marks)) 0 (a .held))
 
-pub lent-table : (a : Trace) (xs ys : List ℤ) (t : List ℕ) → Decides (LentSamples a xs ys × LentTable a t) (lentOk a (a .levels) (length xs) (length ys) (length t) (a .held))
-lent-table a xs ys t =
-    carry (λ p. ((p .0, p .1), p .2)) (λ p. (p .0 .0, p .0 .1, p .1, omega arith)) (lent-decided a (a .levels) (length xs) (length ys) (length t) (a .held))
+pub lent-table : (a : Trace) (xs : Samples) (t : List ℕ) → Decides (LentSamples a xs × LentTable a t) (lentOk a (a .levels) (length (xs .across)) (length (xs .upward)) (length (xs .marks)) (length t) (a .held))
+lent-table a xs t =
+    carry (λ p. ((p .0, p .1, p .2), p .3)) (λ p. (p .0 .0, p .0 .1, p .0 .2, p .1, omega arith)) (lent-decided a (a .levels) (length (xs .across)) (length (xs .upward)) (length (xs .marks)) (length t) (a .held))
 
-pub lent-ranks : (a : Trace) (xs ys : List ℤ) (t ranks : List ℕ)
-    → Decides (LentSamples a xs ys × LentTable a t × (a .held ≤ length ranks)) (lentOk a (a .levels) (length xs) (length ys) (length t) (length ranks))
-lent-ranks a xs ys t ranks =
-    carry (λ p. ((p .0, p .1), p .2, p .3)) (λ p. (p .0 .0, p .0 .1, p .1, p .2)) (lent-decided a (a .levels) (length xs) (length ys) (length t) (length ranks))
+pub lent-ranks : (a : Trace) (xs : Samples) (t ranks : List ℕ)
+    → Decides (LentSamples a xs × LentTable a t × (a .held ≤ length ranks)) (lentOk a (a .levels) (length (xs .across)) (length (xs .upward)) (length (xs .marks)) (length t) (length ranks))
+lent-ranks a xs t ranks =
+    carry (λ p. ((p .0, p .1, p .2), p .3, p .4)) (λ p. (p .0 .0, p .0 .1, p .0 .2, p .1, p .2)) (lent-decided a (a .levels) (length (xs .across)) (length (xs .upward)) (length (xs .marks)) (length t) (length ranks))
 
-pub samples-decided : (a : Trace) (xs ys : List ℤ) → Decides (StoredSamples a xs ys) (samplesOk a xs ys)
+pub samples-decided : (a : Trace) (xs : Samples) → Decides (StoredSamples a xs) (samplesOk a xs)
 unfolding samplesOk
-samples-decided a xs ys =
-    carry (λ p q h. (p .0 q h, p .1 q h)) (λ p. (λ q h. p q h .0, λ q h. p q h .1))
-    (both-decided _ _ (coordinates-decided xs (a .held)) (coordinates-decided ys (a .held)))
+samples-decided a xs =
+    carry (λ p q h. (p .0 q h, p .1 .0 q h, p .1 .1 q h)) (λ p. (λ q h. p q h .0, (λ q h. p q h .1, λ q h. p q h .2)))
+    (both-decided _ _ (coordinates-decided (xs .across) (a .held)) (both-decided _ _ (coordinates-decided (xs .upward) (a .held)) (marks-decided (xs .marks) (a .held))))
 
-pub stored-decided : (a : Trace) (xs ys : List ℤ) (t : List ℕ)
-    → Decides (StoredSamples a xs ys × StoredCells a t) (storedOk a xs ys t)
+pub stored-decided : (a : Trace) (xs : Samples) (t : List ℕ)
+    → Decides (StoredSamples a xs × StoredCells a t) (storedOk a xs t)
 unfolding storedOk
-stored-decided a xs ys t = both-decided _ _ (samples-decided a xs ys) (cells-decided t (a .capacity) (a .held) (a .levels))
+stored-decided a xs t = both-decided _ _ (samples-decided a xs) (cells-decided t (a .capacity) (a .held) (a .levels))
 
-pub sample-decided : (x y : ℤ) → Decides (Coord x × Coord y) (sampleOk x y)
+pub sample-decided : (x : Sample) → Decides (Valid x) (sampleOk x)
 unfolding sampleOk
-sample-decided x y = both-decided _ _ (coordinate-decided x) (coordinate-decided y)
+sample-decided x =
+    carry (λ p. (p .0, p .1 .0, p .1 .1)) (λ p. (p .0, (p .1, p .2)))
+    (both-decided _ _ (coordinate-decided (x .across)) (both-decided _ _ (coordinate-decided (x .upward)) (mark-decided (x .mark))))
 
 -- ---- a stretch and a level that are there: the opposite of `Absent`
 abbrev pub There : Trace → ℕ → ℕ → ℕ → Type 0

@@ -5,13 +5,12 @@ use mathlib.Core.Bool.{Bool}
 use mathlib.Core.List.{List}
 use Prim.Native.Nat.{ℕ, _≤_, _<_}
 use native.Mathlib.Omega.{arith}
-use lib.IntN.{ℤ}
 use lib.ListN.{length}
 use Rattle.refusal.specs.Check.{Decides, First}
 use Rattle.refusal.proofs.Rows.{Above, above-none, above-first, reached-none, reached-next, reached-row, reached-all}
-use Rattle.geometry.specs.Coordinate.{Coord}
+use Rattle.geometry.specs.Samples.{Sample, Samples}
 use Rattle.trace.specs.declared.Trace.{Trace}
-use Rattle.trace.specs.Numbers.{Sized, Tolerances, LentSamples, LentTable, StoredSamples, StoredCells, Absent, Good, SetupNumber, TraceNumber, StartNumber, PutNumber, AskNumber, ReadNumber}
+use Rattle.trace.specs.Numbers.{Sized, Tolerances, Valid, LentSamples, LentTable, StoredSamples, StoredCells, Absent, Good, SetupNumber, TraceNumber, StartNumber, PutNumber, AskNumber, ReadNumber}
 use Rattle.trace.proofs.Decided.{lent-samples, lent-table, lent-ranks, samples-decided, stored-decided}
 use Rattle.trace.proofs.Passed.{Passed, PassedTable, past-1, past-2, past-3, past-4, samples-past, table-past, sample-past, ranks-past, put-past, ask-past, read-past}
 
@@ -35,7 +34,7 @@ pub record TraceRows (a : Trace) (Lent Stored : Type 0) (k : ℕ) : Type 0 where
   pub row-3 : k ≡ 3 ↔ (Sized (a .levels) (a .capacity) × Tolerances (a .levels) (a .tolerances)) × (Lent → ⊥)
   -- n greater than N
   pub row-4 : k ≡ 4 ↔ (Sized (a .levels) (a .capacity) × Tolerances (a .levels) (a .tolerances) × Lent) × (a .capacity < a .held)
-  -- a stored coordinate out of range, or, where a table is lent, a cell of a stretch i < j < n that is neither 65,535 nor from k to 1 + (k - 1) (j - i), or 65,535 for neighbours
+  -- a stored coordinate out of range, a stored mark above 1 or, where a table is lent, a cell of a stretch i < j < n that is neither 65,535 nor from k to 1 + (k - 1) (j - i), or 65,535 for neighbours
   pub row-5 : k ≡ 5 ↔ (Sized (a .levels) (a .capacity) × Tolerances (a .levels) (a .tolerances) × Lent × (a .held ≤ a .capacity)) × (Stored → ⊥)
 
 -- where the rows that follow give 0 or a number above 5
@@ -61,58 +60,58 @@ pub start-rows : (m N : ℕ) (tols : List ℕ) {k : ℕ} → StartNumber m N tol
 start-rows m N tols h = record { setup = setup-rows m N tols (above-none 2) h; row-0 = reached-all (past-2 m N tols h) }
 
 -- ---- put
-pub record PutRows (a : Trace) (xs ys : List ℤ) (t : List ℕ) (v : ℕ) (x y : ℤ) (k : ℕ) : Type 0 where
-  pub trace : TraceRows a (LentSamples a xs ys × LentTable a t) (StoredSamples a xs ys × StoredCells a t) k
-  -- a new coordinate out of range
-  pub row-6 : k ≡ 6 ↔ (Passed a xs ys × PassedTable a t) × (Coord x × Coord y → ⊥)
+pub record PutRows (a : Trace) (xs : Samples) (t : List ℕ) (v : ℕ) (x : Sample) (k : ℕ) : Type 0 where
+  pub trace : TraceRows a (LentSamples a xs × LentTable a t) (StoredSamples a xs × StoredCells a t) k
+  -- a new coordinate out of range, or a new mark above 1
+  pub row-6 : k ≡ 6 ↔ (Passed a xs × PassedTable a t) × (Valid x → ⊥)
   -- v = n = N
-  pub row-7 : k ≡ 7 ↔ (Passed a xs ys × PassedTable a t × Coord x × Coord y) × ((v ≡ a .held) × (a .held ≡ a .capacity))
+  pub row-7 : k ≡ 7 ↔ (Passed a xs × PassedTable a t × Valid x) × ((v ≡ a .held) × (a .held ≡ a .capacity))
   -- v above n
-  pub row-8 : k ≡ 8 ↔ (Passed a xs ys × PassedTable a t × Coord x × Coord y) × (a .held < v)
+  pub row-8 : k ≡ 8 ↔ (Passed a xs × PassedTable a t × Valid x) × (a .held < v)
   -- every check passes
-  pub row-0 : k ≡ 0 ↔ Passed a xs ys × PassedTable a t × Coord x × Coord y × (v ≤ a .held) × (v < a .capacity)
+  pub row-0 : k ≡ 0 ↔ Passed a xs × PassedTable a t × Valid x × (v ≤ a .held) × (v < a .capacity)
 
-pub put-rows : (a : Trace) (xs ys : List ℤ) (t : List ℕ) (v : ℕ) (x y : ℤ) {k : ℕ} → PutNumber a xs ys t v x y k → PutRows a xs ys t v x y k
-put-rows a xs ys t v x y h =
-    let eight = reached-row 8 (omega arith) (above-none 8) (reached-next 7 (omega arith) (sample-past a xs ys t x y h)) in
+pub put-rows : (a : Trace) (xs : Samples) (t : List ℕ) (v : ℕ) (x : Sample) {k : ℕ} → PutNumber a xs t v x k → PutRows a xs t v x k
+put-rows a xs t v x h =
+    let eight = reached-row 8 (omega arith) (above-none 8) (reached-next 7 (omega arith) (sample-past a xs t x h)) in
     let above-7 : Above 7 (First 8 (a .held < v) Good) = above-first 7 8 (omega arith) (above-none 8) in
     let above-6 = above-first 6 7 (omega arith) above-7 in
     record {
-      trace = trace-rows a (lent-table a xs ys t) (stored-decided a xs ys t) (above-first 5 6 (omega arith) above-6) h;
-      row-6 = reached-row 6 (omega arith) above-6 (table-past a xs ys t h);
-      row-7 = reached-row 7 (omega arith) above-7 (sample-past a xs ys t x y h);
+      trace = trace-rows a (lent-table a xs t) (stored-decided a xs t) (above-first 5 6 (omega arith) above-6) h;
+      row-6 = reached-row 6 (omega arith) above-6 (table-past a xs t h);
+      row-7 = reached-row 7 (omega arith) above-7 (sample-past a xs t x h);
       row-8 = (λ e. let p = eight .0 e in (p .0 .0, p .1), λ q. eight .1 ((q .0, λ e. omega (arith, q .1)), q .1));
-      row-0 = reached-all (put-past a xs ys t v x y h);
+      row-0 = reached-all (put-past a xs t v x h);
     }
 
 -- ---- ask, which is lent no table
-pub record AskRows (a : Trace) (xs ys : List ℤ) (k i j : ℕ) (n : ℕ) : Type 0 where
-  pub trace : TraceRows a (LentSamples a xs ys) (StoredSamples a xs ys) n
+pub record AskRows (a : Trace) (xs : Samples) (k i j : ℕ) (n : ℕ) : Type 0 where
+  pub trace : TraceRows a (LentSamples a xs) (StoredSamples a xs) n
   -- no such stretch or level
-  pub row-8 : n ≡ 8 ↔ Passed a xs ys × Absent a k i j
+  pub row-8 : n ≡ 8 ↔ Passed a xs × Absent a k i j
   -- every check passes
-  pub row-0 : n ≡ 0 ↔ Passed a xs ys × (i < j) × (j < a .held) × (1 ≤ k) × (k ≤ a .levels)
+  pub row-0 : n ≡ 0 ↔ Passed a xs × (i < j) × (j < a .held) × (1 ≤ k) × (k ≤ a .levels)
 
-pub ask-rows : (a : Trace) (xs ys : List ℤ) (k i j : ℕ) {n : ℕ} → AskNumber a xs ys k i j n → AskRows a xs ys k i j n
-ask-rows a xs ys k i j h =
+pub ask-rows : (a : Trace) (xs : Samples) (k i j : ℕ) {n : ℕ} → AskNumber a xs k i j n → AskRows a xs k i j n
+ask-rows a xs k i j h =
     record {
-      trace = trace-rows a (lent-samples a xs ys) (samples-decided a xs ys) (above-first 5 8 (omega arith) (above-none 8)) h;
-      row-8 = reached-row 8 (omega arith) (above-none 8) (samples-past a xs ys h);
-      row-0 = reached-all (ask-past a xs ys k i j h);
+      trace = trace-rows a (lent-samples a xs) (samples-decided a xs) (above-first 5 8 (omega arith) (above-none 8)) h;
+      row-8 = reached-row 8 (omega arith) (above-none 8) (samples-past a xs h);
+      row-0 = reached-all (ask-past a xs k i j h);
     }
 
 -- ---- read, which is lent the ranks as well
-pub record ReadRows (a : Trace) (xs ys : List ℤ) (t ranks : List ℕ) (k : ℕ) : Type 0 where
-  pub trace : TraceRows a (LentSamples a xs ys × LentTable a t × (a .held ≤ length ranks)) (StoredSamples a xs ys × StoredCells a t) k
+pub record ReadRows (a : Trace) (xs : Samples) (t ranks : List ℕ) (k : ℕ) : Type 0 where
+  pub trace : TraceRows a (LentSamples a xs × LentTable a t × (a .held ≤ length ranks)) (StoredSamples a xs × StoredCells a t) k
   -- n below 2
-  pub row-9 : k ≡ 9 ↔ (Passed a xs ys × PassedTable a t × (a .held ≤ length ranks)) × (a .held < 2)
+  pub row-9 : k ≡ 9 ↔ (Passed a xs × PassedTable a t × (a .held ≤ length ranks)) × (a .held < 2)
   -- every check passes
-  pub row-0 : k ≡ 0 ↔ Passed a xs ys × PassedTable a t × (a .held ≤ length ranks) × (2 ≤ a .held)
+  pub row-0 : k ≡ 0 ↔ Passed a xs × PassedTable a t × (a .held ≤ length ranks) × (2 ≤ a .held)
 
-pub read-rows : (a : Trace) (xs ys : List ℤ) (t ranks : List ℕ) {k : ℕ} → ReadNumber a xs ys t ranks k → ReadRows a xs ys t ranks k
-read-rows a xs ys t ranks h =
+pub read-rows : (a : Trace) (xs : Samples) (t ranks : List ℕ) {k : ℕ} → ReadNumber a xs t ranks k → ReadRows a xs t ranks k
+read-rows a xs t ranks h =
     record {
-      trace = trace-rows a (lent-ranks a xs ys t ranks) (stored-decided a xs ys t) (above-first 5 9 (omega arith) (above-none 9)) h;
-      row-9 = reached-row 9 (omega arith) (above-none 9) (ranks-past a xs ys t ranks h);
-      row-0 = reached-all (read-past a xs ys t ranks h);
+      trace = trace-rows a (lent-ranks a xs t ranks) (stored-decided a xs t) (above-first 5 9 (omega arith) (above-none 9)) h;
+      row-9 = reached-row 9 (omega arith) (above-none 9) (ranks-past a xs t ranks h);
+      row-0 = reached-all (read-past a xs t ranks h);
     }

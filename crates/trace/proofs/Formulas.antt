@@ -2,22 +2,22 @@
 use mathlib.Core.Path.{_≡_, sym, ap, subst, _∙_}
 use Prim.Native.Nat.{ℕ, _+_, _-_, _*_, _<_}
 use native.Mathlib.Omega.{arith}
-use lib.IntN.{ℤ}
 use Rattle.refusal.specs.declared.Outcome.the-variants.{Done}
+use Rattle.geometry.specs.Samples.{Sample}
 use Rattle.costs.proofs.Tally.{named-formula, named-add}
 use Rattle.trace.specs.declared.Trace.{Trace}
 use Rattle.trace.specs.declared.Changed.{Changed}
 use Rattle.trace.specs.Calls.{Buffers, Put, PutGives}
 use Rattle.trace.proofs.Held.{held-corrected, held-added}
 
-module _ (a : Trace) (b : Buffers) (v : ℕ) (x y : ℤ) (r : Changed) (e : Buffers) (G : PutGives a b v x y r e) (d : r .outcome ≡ Done) where
-  -- below n it is a correction: sample v has new coordinates, and as many are held
-  pub put-corrects : v < a .held → Put a b v (a .held) x y r e
-  put-corrects h = subst (λ n. Put a b v n x y r e) (held-corrected (a .held) v h) (G .done d)
+module _ (a : Trace) (b : Buffers) (v : ℕ) (x : Sample) (r : Changed) (e : Buffers) (G : PutGives a b v x r e) (d : r .outcome ≡ Done) where
+  -- below n it is a correction: sample v is new, and as many are held
+  pub put-corrects : v < a .held → Put a b v (a .held) x r e
+  put-corrects h = subst (λ n. Put a b v n x r e) (held-corrected (a .held) v h) (G .done d)
 
   -- at n an addition: sample n is new, and one more is held
-  pub put-adds : v ≡ a .held → Put a b (a .held) (a .held + 1) x y r e
-  put-adds h = subst (λ u. Put a b u (a .held + 1) x y r e) h (subst (λ n. Put a b v n x y r e) (held-added (a .held) v (omega arith)) (G .done d))
+  pub put-adds : v ≡ a .held → Put a b (a .held) (a .held + 1) x r e
+  put-adds h = subst (λ u. Put a b u (a .held + 1) x r e) h (subst (λ n. Put a b v n x r e) (held-added (a .held) v (omega arith)) (G .done d))
 
   -- of n′ samples after the call, m · ((v + 1) · (n′ - v) - 1) cells are written
   pub put-cells : r .cells ≡ a .levels * ((v + 1) * (r .trace .held - v) - 1)

@@ -7,7 +7,6 @@ use Prim.Native.Nat.{ℕ, _≤_, _<_}
 use native.Mathlib.Numerals.{lt-of-le-of-ne}
 use native.Mathlib.Omega.{arith}
 use lib.Dec.{leb, ltb, eqb}
-use lib.IntN.{ℤ}
 use lib.ListN.{length}
 use borrow.Author.Tests.{leb-true, leb-false, ltb-true, ltb-false, eqb-true, eqb-false}
 use Rattle.refusal.specs.declared.Refusal.the-variants.{Setup, Tolerance, Buffer, Held, Stored, Coordinate, Full, Missing, Few}
@@ -16,6 +15,7 @@ use Rattle.refusal.specs.Number.{code}
 use Rattle.refusal.specs.Check.{unless, Decides, First}
 use Rattle.refusal.proofs.Laws.{then-done}
 use Rattle.refusal.proofs.Rows.{first-one, Row, test-row, unless-row, then-row, row-number}
+use Rattle.geometry.specs.Samples.{Sample, Samples}
 use Rattle.trace.specs.declared.Trace.{Trace}
 use Rattle.trace.specs.Numbers.{StoredSamples, StoredCells, SetupNumber, TraceNumber, PlaceNumber, Good, StartNumber, PutNumber, AskNumber, ReadNumber}
 use Rattle.trace.specs.Rows.{lentOk, setupOutcome, lentOutcome, traceOutcome, placeOutcome, putOutcome, askOutcome, readOutcome}
@@ -27,23 +27,23 @@ setup-row : (m N : ℕ) (tols : List ℕ) → Row (setupOutcome m N tols) (Setup
 unfolding setupOutcome
 setup-row m N tols = then-row _ _ (unless-row _ Setup (setup-decided m N)) (λ e. unless-row _ Tolerance (tolerances-decided m tols))
 
-held-row : (a : Trace) {Lent : Type 0} (levels xs ys cells bytes : ℕ) → Decides Lent (lentOk a levels xs ys cells bytes)
-    → Row (lentOutcome a levels xs ys cells bytes) (λ rest. SetupNumber (a .levels) (a .capacity) (a .tolerances) (First 3 (Lent → ⊥) (First 4 (a .capacity < a .held) rest)))
+held-row : (a : Trace) {Lent : Type 0} (levels xs ys marks cells bytes : ℕ) → Decides Lent (lentOk a levels xs ys marks cells bytes)
+    → Row (lentOutcome a levels xs ys marks cells bytes) (λ rest. SetupNumber (a .levels) (a .capacity) (a .tolerances) (First 3 (Lent → ⊥) (First 4 (a .capacity < a .held) rest)))
 unfolding lentOutcome
-held-row a levels xs ys cells bytes d =
+held-row a levels xs ys marks cells bytes d =
     then-row _ _ (setup-row (a .levels) (a .capacity) (a .tolerances))
     (λ e. then-row _ _ (unless-row _ Buffer d)
     (λ f. test-row (leb (a .held) (a .capacity)) Held (λ t l. omega (arith, leb-true (a .held) (a .capacity) t)) (leb-false (a .held) (a .capacity))))
 
-trace-row : (a : Trace) {Lent : Type 0} (xs ys : List ℤ) (t : List ℕ) (bytes : ℕ) → Decides Lent (lentOk a (a .levels) (length xs) (length ys) (length t) bytes)
-    → Row (traceOutcome a xs ys t bytes) (TraceNumber a Lent (StoredSamples a xs ys × StoredCells a t))
+trace-row : (a : Trace) {Lent : Type 0} (xs : Samples) (t : List ℕ) (bytes : ℕ) → Decides Lent (lentOk a (a .levels) (length (xs .across)) (length (xs .upward)) (length (xs .marks)) (length t) bytes)
+    → Row (traceOutcome a xs t bytes) (TraceNumber a Lent (StoredSamples a xs × StoredCells a t))
 unfolding traceOutcome
-trace-row a xs ys t bytes d = then-row _ _ (held-row a _ _ _ _ _ d) (λ e. unless-row _ Stored (stored-decided a xs ys t))
+trace-row a xs t bytes d = then-row _ _ (held-row a _ _ _ _ _ _ d) (λ e. unless-row _ Stored (stored-decided a xs t))
 
 -- past check 4 no more samples are held than there is room for
-held-within : (a : Trace) (xs ys : List ℤ) (t : List ℕ) → traceOutcome a xs ys t (a .held) ≡ Done → a .held ≤ a .capacity
+held-within : (a : Trace) (xs : Samples) (t : List ℕ) → traceOutcome a xs t (a .held) ≡ Done → a .held ≤ a .capacity
 unfolding traceOutcome
-held-within a xs ys t e = lent-done a (a .levels) (length xs) (length ys) (length t) (a .held) (then-done _ _ e .0) .held
+held-within a xs t e = lent-done a (a .levels) (length (xs .across)) (length (xs .upward)) (length (xs .marks)) (length t) (a .held) (then-done _ _ e .0) .held
 
 -- 7 and 8, where that is so
 place-row : (a : Trace) (v : ℕ) → a .held ≤ a .capacity → Row (placeOutcome a v) (PlaceNumber a v)
@@ -68,26 +68,26 @@ place-row a v h =
 pub start-number : (m N : ℕ) (tols : List ℕ) → StartNumber m N tols (code (setupOutcome m N tols))
 start-number m N tols = row-number _ _ (setup-row m N tols)
 
-pub put-number : (a : Trace) (xs ys : List ℤ) (t : List ℕ) (v : ℕ) (x y : ℤ) → PutNumber a xs ys t v x y (code (putOutcome a xs ys t v x y))
+pub put-number : (a : Trace) (xs : Samples) (t : List ℕ) (v : ℕ) (x : Sample) → PutNumber a xs t v x (code (putOutcome a xs t v x))
 unfolding putOutcome
-put-number a xs ys t v x y =
+put-number a xs t v x =
     row-number _ _
-    (then-row _ _ (trace-row a xs ys t (a .held) (lent-table a xs ys t))
-    (λ e. then-row _ _ (unless-row _ Coordinate (sample-decided x y)) (λ f. place-row a v (held-within a xs ys t e))))
+    (then-row _ _ (trace-row a xs t (a .held) (lent-table a xs t))
+    (λ e. then-row _ _ (unless-row _ Coordinate (sample-decided x)) (λ f. place-row a v (held-within a xs t e))))
 
-pub ask-number : (a : Trace) (xs ys : List ℤ) (k i j : ℕ) → AskNumber a xs ys k i j (code (askOutcome a xs ys k i j))
+pub ask-number : (a : Trace) (xs : Samples) (k i j : ℕ) → AskNumber a xs k i j (code (askOutcome a xs k i j))
 unfolding askOutcome
-ask-number a xs ys k i j =
+ask-number a xs k i j =
     row-number _ _
-    (then-row _ _ (held-row a _ _ _ _ _ (lent-samples a xs ys))
-    (λ e. then-row _ _ (unless-row _ Stored (samples-decided a xs ys))
+    (then-row _ _ (held-row a _ _ _ _ _ _ (lent-samples a xs))
+    (λ e. then-row _ _ (unless-row _ Stored (samples-decided a xs))
     (λ f. test-row _ Missing (λ b n. not-both a k i j n (there-decided a k i j .right b)) (absent a k i j))))
 
-pub read-number : (a : Trace) (xs ys : List ℤ) (t ranks : List ℕ) → ReadNumber a xs ys t ranks (code (readOutcome a xs ys t (length ranks)))
+pub read-number : (a : Trace) (xs : Samples) (t ranks : List ℕ) → ReadNumber a xs t ranks (code (readOutcome a xs t (length ranks)))
 unfolding readOutcome
-read-number a xs ys t ranks =
+read-number a xs t ranks =
     row-number _ _
-    (then-row _ _ (trace-row a xs ys t (length ranks) (lent-ranks a xs ys t ranks)) (λ e. test-row _ Few (λ b l. omega (arith, leb-true 2 (a .held) b)) (leb-false 2 (a .held))))
+    (then-row _ _ (trace-row a xs t (length ranks) (lent-ranks a xs t ranks)) (λ e. test-row _ Few (λ b l. omega (arith, leb-true 2 (a .held) b)) (leb-false 2 (a .held))))
 
 -- ---- two numbers that one of the statements gives are equal
 good-one : (j k : ℕ) → Good j → Good k → j ≡ k
@@ -104,11 +104,11 @@ trace-one a Lent Saved rest one =
 pub start-number-one : (m N : ℕ) (tols : List ℕ) (j k : ℕ) → StartNumber m N tols j → StartNumber m N tols k → j ≡ k
 start-number-one m N tols = setup-one m N tols Good good-one
 
-pub put-number-one : (a : Trace) (xs ys : List ℤ) (t : List ℕ) (v : ℕ) (x y : ℤ) (j k : ℕ) → PutNumber a xs ys t v x y j → PutNumber a xs ys t v x y k → j ≡ k
-put-number-one a xs ys t v x y = trace-one a _ _ _ (first-one 6 _ _ (first-one 7 _ _ (first-one 8 _ Good good-one)))
+pub put-number-one : (a : Trace) (xs : Samples) (t : List ℕ) (v : ℕ) (x : Sample) (j k : ℕ) → PutNumber a xs t v x j → PutNumber a xs t v x k → j ≡ k
+put-number-one a xs t v x = trace-one a _ _ _ (first-one 6 _ _ (first-one 7 _ _ (first-one 8 _ Good good-one)))
 
-pub ask-number-one : (a : Trace) (xs ys : List ℤ) (l i j : ℕ) (p q : ℕ) → AskNumber a xs ys l i j p → AskNumber a xs ys l i j q → p ≡ q
-ask-number-one a xs ys l i j = trace-one a _ _ _ (first-one 8 _ Good good-one)
+pub ask-number-one : (a : Trace) (xs : Samples) (l i j : ℕ) (p q : ℕ) → AskNumber a xs l i j p → AskNumber a xs l i j q → p ≡ q
+ask-number-one a xs l i j = trace-one a _ _ _ (first-one 8 _ Good good-one)
 
-pub read-number-one : (a : Trace) (xs ys : List ℤ) (t ranks : List ℕ) (j k : ℕ) → ReadNumber a xs ys t ranks j → ReadNumber a xs ys t ranks k → j ≡ k
-read-number-one a xs ys t ranks = trace-one a _ _ _ (first-one 9 _ Good good-one)
+pub read-number-one : (a : Trace) (xs : Samples) (t ranks : List ℕ) (j k : ℕ) → ReadNumber a xs t ranks j → ReadNumber a xs t ranks k → j ≡ k
+read-number-one a xs t ranks = trace-one a _ _ _ (first-one 9 _ Good good-one)

@@ -13,23 +13,24 @@ use lib.ListN.{length, length-set, getD, set}
 use lib.Seq.{getD-set-same, getD-set-other}
 use Rattle.refusal.specs.Check.{Decides, First}
 use Rattle.refusal.proofs.Rows.{Reached, reached-none, reached-as, reached-next, reached-more, reached-unless}
-use Rattle.geometry.specs.Coordinate.{Coord, InRange}
+use Rattle.geometry.specs.Coordinate.{Coord, InRange, Ranged}
+use Rattle.geometry.specs.Samples.{Sample, Samples}
 use Rattle.costs.specs.Walk.{Rising}
 use Rattle.costs.proofs.Exit.{put-steps}
 use Rattle.trace.specs.declared.Trace.{Trace}
-use Rattle.trace.specs.Numbers.{Sized, Tolerances, LentSamples, LentTable, StoredSamples, StoredCells, Good, SetupNumber, TraceNumber, StartNumber, PutNumber, AskNumber, ReadNumber}
+use Rattle.trace.specs.Numbers.{Sized, Tolerances, Valid, LentSamples, LentTable, StoredSamples, StoredCells, Good, SetupNumber, TraceNumber, StartNumber, PutNumber, AskNumber, ReadNumber}
 use Rattle.trace.specs.Calls.{heldWith}
 use Rattle.trace.specs.Rows.{Ready}
 use Rattle.trace.proofs.Decided.{setup-decided, tolerances-decided, lent-samples, lent-table, lent-ranks, samples-decided, stored-decided, sample-decided, not-both, there}
 use Rattle.trace.proofs.Held.{held-there, held-room, held-others}
 
 -- checks 1 to 5 of the setup and the coordinates
-pub record Passed (a : Trace) (xs ys : List ℤ) : Type 0 where
+pub record Passed (a : Trace) (xs : Samples) : Type 0 where
   pub sized : Sized (a .levels) (a .capacity)
   pub tolerances : Tolerances (a .levels) (a .tolerances)
-  pub lent : LentSamples a xs ys
+  pub lent : LentSamples a xs
   pub held : a .held ≤ a .capacity
-  pub stored : StoredSamples a xs ys
+  pub stored : StoredSamples a xs
 
 -- and of the table
 pub record PassedTable (a : Trace) (t : List ℕ) : Type 0 where
@@ -56,54 +57,54 @@ module _ (a : Trace) {Lent Stored : Type 0} {s t : Bool} (lent : Decides Lent s)
   past-5 = reached-unless 5 (omega arith) t stored (λ p. (p .0 .0, p .0 .1, p .0 .2, p .0 .3, p .1), λ q. ((q .0, q .1, q .2, q .3), q .4)) past-4
 
 -- and past the last, of each call: ask is lent no table, and read the ranks as well
-module _ (a : Trace) (xs ys : List ℤ) where
-  pub samples-past : {rest : ℕ → Type 0} {k : ℕ} → TraceNumber a (LentSamples a xs ys) (StoredSamples a xs ys) rest k → Reached (Passed a xs ys) 5 rest k
+module _ (a : Trace) (xs : Samples) where
+  pub samples-past : {rest : ℕ → Type 0} {k : ℕ} → TraceNumber a (LentSamples a xs) (StoredSamples a xs) rest k → Reached (Passed a xs) 5 rest k
   samples-past h =
       reached-as
       (λ p. record { sized = p .0; tolerances = p .1; lent = p .2; held = p .3; stored = p .4 }, λ q. (q .sized, q .tolerances, q .lent, q .held, q .stored))
-      (past-5 a (lent-samples a xs ys) (samples-decided a xs ys) h)
+      (past-5 a (lent-samples a xs) (samples-decided a xs) h)
 
-  pub ask-past : {n : ℕ} (k i j : ℕ) → AskNumber a xs ys k i j n → Reached (Passed a xs ys × (i < j) × (j < a .held) × (1 ≤ k) × (k ≤ a .levels)) 8 Good n
+  pub ask-past : {n : ℕ} (k i j : ℕ) → AskNumber a xs k i j n → Reached (Passed a xs × (i < j) × (j < a .held) × (1 ≤ k) × (k ≤ a .levels)) 8 Good n
   ask-past k i j h = reached-more 8 (omega arith) (λ p. let s = there a k i j (p .1) in (p .0, s .0, s .1, s .2, s .3), λ q. (q .0, λ n. not-both a k i j n (q .1, q .2, q .3, q .4))) (samples-past h)
 
   module _ (t : List ℕ) where
-    pub table-past : {rest : ℕ → Type 0} {k : ℕ} → TraceNumber a (LentSamples a xs ys × LentTable a t) (StoredSamples a xs ys × StoredCells a t) rest k
-        → Reached (Passed a xs ys × PassedTable a t) 5 rest k
+    pub table-past : {rest : ℕ → Type 0} {k : ℕ} → TraceNumber a (LentSamples a xs × LentTable a t) (StoredSamples a xs × StoredCells a t) rest k
+        → Reached (Passed a xs × PassedTable a t) 5 rest k
     table-past h =
         reached-as (
           λ p. (record { sized = p .0; tolerances = p .1; lent = p .2 .0; held = p .3; stored = p .4 .0 }, record { room = p .2 .1; cells = p .4 .1 }),
           λ q. (q .0 .sized, q .0 .tolerances, (q .0 .lent, q .1 .room), q .0 .held, (q .0 .stored, q .1 .cells)),
         )
-        (past-5 a (lent-table a xs ys t) (stored-decided a xs ys t) h)
+        (past-5 a (lent-table a xs t) (stored-decided a xs t) h)
 
-    pub sample-past : {rest : ℕ → Type 0} {k : ℕ} (x y : ℤ)
-        → TraceNumber a (LentSamples a xs ys × LentTable a t) (StoredSamples a xs ys × StoredCells a t) (First 6 (Coord x × Coord y → ⊥) rest) k
-        → Reached (Passed a xs ys × PassedTable a t × Coord x × Coord y) 6 rest k
-    sample-past x y h =
-        reached-unless 6 (omega arith) _ (sample-decided x y) (λ p. (p .0 .0, p .0 .1, p .1 .0, p .1 .1), λ q. ((q .0, q .1), (q .2, q .3))) (table-past h)
+    pub sample-past : {rest : ℕ → Type 0} {k : ℕ} (x : Sample)
+        → TraceNumber a (LentSamples a xs × LentTable a t) (StoredSamples a xs × StoredCells a t) (First 6 (Valid x → ⊥) rest) k
+        → Reached (Passed a xs × PassedTable a t × Valid x) 6 rest k
+    sample-past x h =
+        reached-unless 6 (omega arith) _ (sample-decided x) (λ p. (p .0 .0, p .0 .1, p .1), λ q. ((q .0, q .1), q .2)) (table-past h)
 
     -- past 7 and 8 there is a place v
-    pub put-past : {k : ℕ} (v : ℕ) (x y : ℤ) → PutNumber a xs ys t v x y k
-        → Reached (Passed a xs ys × PassedTable a t × Coord x × Coord y × (v ≤ a .held) × (v < a .capacity)) 8 Good k
-    put-past v x y h =
+    pub put-past : {k : ℕ} (v : ℕ) (x : Sample) → PutNumber a xs t v x k
+        → Reached (Passed a xs × PassedTable a t × Valid x × (v ≤ a .held) × (v < a .capacity)) 8 Good k
+    put-past v x h =
         reached-more 8 (omega arith) (
           λ p.
               let P = p .0 .0 in
               let o : v ≤ a .held = omega (arith, lt-of-not-le (p .1)) in
-              (P .0, P .1, P .2, P .3, o, lt-of-le-of-ne (le-trans o (P .0 .held)) (λ e. p .0 .1 (omega (arith, P .0 .held), omega (arith, P .0 .held)))),
-          λ q. (((q .0, q .1, q .2, q .3), λ e. omega (arith, q .5)), λ l. omega (arith, q .4)),
+              (P .0, P .1, P .2, o, lt-of-le-of-ne (le-trans o (P .0 .held)) (λ e. p .0 .1 (omega (arith, P .0 .held), omega (arith, P .0 .held)))),
+          λ q. (((q .0, q .1, q .2), λ e. omega (arith, q .4)), λ l. omega (arith, q .3)),
         )
-        (reached-next 7 (omega arith) (sample-past x y h))
+        (reached-next 7 (omega arith) (sample-past x h))
 
-    pub ranks-past : {k : ℕ} (ranks : List ℕ) → ReadNumber a xs ys t ranks k → Reached (Passed a xs ys × PassedTable a t × (a .held ≤ length ranks)) 5 (First 9 (a .held < 2) Good) k
+    pub ranks-past : {k : ℕ} (ranks : List ℕ) → ReadNumber a xs t ranks k → Reached (Passed a xs × PassedTable a t × (a .held ≤ length ranks)) 5 (First 9 (a .held < 2) Good) k
     ranks-past ranks h =
         reached-as (
           λ p. (record { sized = p .0; tolerances = p .1; lent = p .2 .0; held = p .3; stored = p .4 .0 }, record { room = p .2 .1; cells = p .4 .1 }, p .2 .2),
           λ q. (q .0 .sized, q .0 .tolerances, (q .0 .lent, q .1 .room, q .2), q .0 .held, (q .0 .stored, q .1 .cells)),
         )
-        (past-5 a (lent-ranks a xs ys t ranks) (stored-decided a xs ys t) h)
+        (past-5 a (lent-ranks a xs t ranks) (stored-decided a xs t) h)
 
-    pub read-past : {k : ℕ} (ranks : List ℕ) → ReadNumber a xs ys t ranks k → Reached (Passed a xs ys × PassedTable a t × (a .held ≤ length ranks) × (2 ≤ a .held)) 9 Good k
+    pub read-past : {k : ℕ} (ranks : List ℕ) → ReadNumber a xs t ranks k → Reached (Passed a xs × PassedTable a t × (a .held ≤ length ranks) × (2 ≤ a .held)) 9 Good k
     read-past ranks h =
         reached-more 9 (omega arith) (λ p. (p .0 .0, p .0 .1, p .0 .2, omega (arith, lt-of-not-le (p .1))), λ q. ((q .0, q .1, q .2), λ l. omega (arith, q .3))) (ranks-past ranks h)
 
@@ -111,27 +112,27 @@ module _ (a : Trace) (xs ys : List ℤ) where
 pub start-passed : (m N : ℕ) (tols : List ℕ) → StartNumber m N tols 0 → Sized m N × Tolerances m tols
 start-passed m N tols h = past-2 m N tols {rest = Good} h .passed (inl refl)
 
-pub put-passed : (a : Trace) (xs ys : List ℤ) (t : List ℕ) (v : ℕ) (x y : ℤ) → PutNumber a xs ys t v x y 0
-    → Passed a xs ys × PassedTable a t × Coord x × Coord y × (v ≤ a .held) × (v < a .capacity)
-put-passed a xs ys t v x y h = put-past a xs ys t v x y h .passed (inl refl)
+pub put-passed : (a : Trace) (xs : Samples) (t : List ℕ) (v : ℕ) (x : Sample) → PutNumber a xs t v x 0
+    → Passed a xs × PassedTable a t × Valid x × (v ≤ a .held) × (v < a .capacity)
+put-passed a xs t v x h = put-past a xs t v x h .passed (inl refl)
 
-pub ask-passed : (a : Trace) (xs ys : List ℤ) (k i j : ℕ) → AskNumber a xs ys k i j 0 → Passed a xs ys × (i < j) × (j < a .held) × (1 ≤ k) × (k ≤ a .levels)
-ask-passed a xs ys k i j h = ask-past a xs ys k i j h .passed (inl refl)
+pub ask-passed : (a : Trace) (xs : Samples) (k i j : ℕ) → AskNumber a xs k i j 0 → Passed a xs × (i < j) × (j < a .held) × (1 ≤ k) × (k ≤ a .levels)
+ask-passed a xs k i j h = ask-past a xs k i j h .passed (inl refl)
 
-pub read-passed : (a : Trace) (xs ys : List ℤ) (t ranks : List ℕ) → ReadNumber a xs ys t ranks 0
-    → Passed a xs ys × PassedTable a t × (a .held ≤ length ranks) × (2 ≤ a .held)
-read-passed a xs ys t ranks h = read-past a xs ys t ranks h .passed (inl refl)
+pub read-passed : (a : Trace) (xs : Samples) (t ranks : List ℕ) → ReadNumber a xs t ranks 0
+    → Passed a xs × PassedTable a t × (a .held ≤ length ranks) × (2 ≤ a .held)
+read-passed a xs t ranks h = read-past a xs t ranks h .passed (inl refl)
 
 -- the tolerances rise, as the walk asks
 pub rising : {m : ℕ} {tols : List ℕ} → Tolerances m tols → Rising tols m
 rising T = record { rise = T .rise; small = λ l h. omega (arith, T .high l h) }
 
 -- the samples held are in range
-pub in-range : {a : Trace} {xs ys : List ℤ} → Passed a xs ys → InRange xs (a .held) × InRange ys (a .held)
-in-range P = (
-  record { held = le-trans (P .held) (P .lent .0); each = λ q l. P .stored q l .0 },
-  record { held = le-trans (P .held) (P .lent .1); each = λ q l. P .stored q l .1 },
-)
+pub in-range : {a : Trace} {xs : Samples} → Passed a xs → Ranged xs (a .held)
+in-range P = record {
+  across = record { held = le-trans (P .held) (P .lent .0); each = λ q l. P .stored q l .0 };
+  upward = record { held = le-trans (P .held) (P .lent .1); each = λ q l. P .stored q l .1 };
+}
 
 -- a coordinate in range, put among others
 put-range : (xs : List ℤ) (v n : ℕ) (x : ℤ) → v < n → n ≤ length xs → Coord x → ((q : ℕ) → q < n → (q ≡ v → ⊥) → Coord (getD xs q (pos 0))) → InRange (set xs v x) n
@@ -144,19 +145,23 @@ put-range xs v n x o h c others = record { held = rw (length-set xs v x) h; each
     ]
 
 -- what a change of a sample asks
-pub put-ready : (a : Trace) (xs ys : List ℤ) (t : List ℕ) (v : ℕ) (x y : ℤ) → PutNumber a xs ys t v x y 0 → Ready a xs ys t v (heldWith (a .held) v) x y
-put-ready a xs ys t v x y h =
-    let p = put-passed a xs ys t v x y h in
+pub put-ready : (a : Trace) (xs : Samples) (t : List ℕ) (v : ℕ) (x : Sample) → PutNumber a xs t v x 0 → Ready a xs t v (heldWith (a .held) v) x
+put-ready a xs t v x h =
+    let p = put-passed a xs t v x h in
     let P = p .0 in
+    let c = p .2 in
     let n = heldWith (a .held) v in
-    let there = held-there (a .held) v (p .4) in
-    let room = held-room (a .held) v (a .capacity) (P .held) (p .4) (p .5) in
-    let others = held-others (a .held) v (p .4) in
+    let there = held-there (a .held) v (p .3) in
+    let room = held-room (a .held) v (a .capacity) (P .held) (p .3) (p .4) in
+    let others = held-others (a .held) v (p .3) in
     record {
       sizes = (P .sized .0, P .sized .1, P .sized .3, there, room);
       rising = rising (P .tolerances);
-      across = put-range xs v n x there (le-trans room (P .lent .0)) (p .2) (λ q l d. P .stored q (others q l d) .0);
-      upward = put-range ys v n y there (le-trans room (P .lent .1)) (p .3) (λ q l d. P .stored q (others q l d) .1);
+      ranged = record {
+        across = put-range (xs .across) v n (x .across) there (le-trans room (P .lent .0)) (c .0) (λ q l d. P .stored q (others q l d) .0);
+        upward = put-range (xs .upward) v n (x .upward) there (le-trans room (P .lent .1)) (c .1) (λ q l d. P .stored q (others q l d) .1);
+      };
+      marks = le-trans room (P .lent .2);
       room = p .1 .room;
       steps = put-steps (a .capacity) (a .levels) v (a .held) n others t (p .1 .cells);
     }

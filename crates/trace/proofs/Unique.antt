@@ -4,14 +4,14 @@ use mathlib.Core.Logic.{_↔_}
 use mathlib.Core.List.{List}
 use Prim.Native.Nat.{ℕ, _-_}
 use native.Mathlib.Omega.{arith}
-use lib.IntN.{ℤ}
 use lib.ListN.{getD}
 use Rattle.refusal.specs.declared.Refusal.{Refusal}
 use Rattle.refusal.specs.declared.Outcome.{Outcome}
 use Rattle.refusal.specs.declared.Outcome.the-variants.{Done, Refused}
 use Rattle.refusal.specs.Number.{code}
 use Rattle.refusal.proofs.Rows.{numbered, number-one, code-one, by-outcome}
-use Rattle.geometry.specs.Near.{Along}
+use Rattle.geometry.specs.Near.{Passable}
+use Rattle.geometry.specs.Samples.{Sample, Samples}
 use Rattle.geometry.specs.Spoiler.{Spoiler}
 use Rattle.geometry.proofs.Spoiler.{spoiler-one, spoiled}
 use Rattle.costs.specs.Costs.{Permit}
@@ -54,19 +54,19 @@ changed-same {r} {q} e f g =
     h
 
 -- the tables that one change of a sample may leave
-table-one : (a : Trace) (b : Buffers) (v n : ℕ) (x y : ℤ) {r q : Changed} {e f : Buffers} → Able a b v n x y → Put a b v n x y r e → Put a b v n x y q f → e .table ≡ f .table
-table-one a b v n x y A P Q = let z = A .ready .sizes in rewritten-unique (a .capacity) _ (a .levels) v n (z .3) (z .4) (b .table) _ _ (put-rewritten A P) (put-rewritten A Q)
+table-one : (a : Trace) (b : Buffers) (v n : ℕ) (x : Sample) {r q : Changed} {e f : Buffers} → Able a b v n x → Put a b v n x r e → Put a b v n x q f → e .table ≡ f .table
+table-one a b v n x A P Q = let z = A .ready .sizes in rewritten-unique (a .capacity) _ (a .levels) v n (z .3) (z .4) (b .table) _ _ (put-rewritten A P) (put-rewritten A Q)
 
-pub put-one : (a : Trace) (b : Buffers) (v : ℕ) (x y : ℤ) (r q : Changed) (e f : Buffers) → PutGives a b v x y r e → PutGives a b v x y q f → (r ≡ q) × (e ≡ f)
-put-one a b v x y r q e f A B =
-    by-number (PutNumber a (b .across) (b .upward) (b .table) v x y) (put-number-one a (b .across) (b .upward) (b .table) v x y) (r .outcome) (q .outcome) (A .number) (B .number) done refused
+pub put-one : (a : Trace) (b : Buffers) (v : ℕ) (x : Sample) (r q : Changed) (e f : Buffers) → PutGives a b v x r e → PutGives a b v x q f → (r ≡ q) × (e ≡ f)
+put-one a b v x r q e f A B =
+    by-number (PutNumber a (b .samples) (b .table) v x) (put-number-one a (b .samples) (b .table) v x) (r .outcome) (q .outcome) (A .number) (B .number) done refused
   where
     done : r .outcome ≡ q .outcome → r .outcome ≡ Done → q .outcome ≡ Done → (r ≡ q) × (e ≡ f)
     done o h g =
         let P = A .done h in
         let Q = B .done g in (
           changed-same o (P .trace ∙ sym (Q .trace)) (P .count ∙ sym (Q .count)),
-          buffers-is (P .across ∙ sym (Q .across)) (P .upward ∙ sym (Q .upward)) (table-one a b v _ x y (put-able a b v x y (rw h at (A .number))) P Q),
+          buffers-is (P .samples ∙ sym (Q .samples)) (table-one a b v _ x (put-able a b v x (rw h at (A .number))) P Q),
         )
 
     refused : r .outcome ≡ q .outcome → (why : Refusal) → r .outcome ≡ Refused why → q .outcome ≡ Refused why → (r ≡ q) × (e ≡ f)
@@ -77,31 +77,30 @@ put-one a b v x y r q e f A B =
 
 -- ---- ask
 -- two answers about one stretch, with one number
-pub says-one : (xs ys : List ℤ) (i j e : ℕ) (r q : Asked) → asked r ≡ asked q → Says xs ys i j e r → Says xs ys i j e q → r ≡ q
-says-one xs ys i j e Asked.Yes Asked.Yes n A B = refl
-says-one xs ys i j e Asked.Yes (Asked.No l) n A B = absurd (spoiled B A)
-says-one xs ys i j e Asked.Yes (Asked.Refused w) n A B = absurd (numbered w (sym n))
-says-one xs ys i j e (Asked.No k) Asked.Yes n A B = absurd (spoiled A B)
-says-one xs ys i j e (Asked.No k) (Asked.No l) n A B = ap Asked.No (spoiler-one A B)
-says-one xs ys i j e (Asked.No k) (Asked.Refused w) n A B = absurd (numbered w (sym n))
-says-one xs ys i j e (Asked.Refused w) Asked.Yes n A B = absurd (numbered w n)
-says-one xs ys i j e (Asked.Refused w) (Asked.No l) n A B = absurd (numbered w n)
-says-one xs ys i j e (Asked.Refused w) (Asked.Refused x) n A B = ap Asked.Refused (number-one w x n)
+pub says-one : (xs : Samples) (i j e : ℕ) (r q : Asked) → asked r ≡ asked q → Says xs i j e r → Says xs i j e q → r ≡ q
+says-one xs i j e Asked.Yes Asked.Yes n A B = refl
+says-one xs i j e Asked.Yes (Asked.No l) n A B = absurd (spoiled B A)
+says-one xs i j e Asked.Yes (Asked.Refused w) n A B = absurd (numbered w (sym n))
+says-one xs i j e (Asked.No k) Asked.Yes n A B = absurd (spoiled A B)
+says-one xs i j e (Asked.No k) (Asked.No l) n A B = ap Asked.No (spoiler-one A B)
+says-one xs i j e (Asked.No k) (Asked.Refused w) n A B = absurd (numbered w (sym n))
+says-one xs i j e (Asked.Refused w) Asked.Yes n A B = absurd (numbered w n)
+says-one xs i j e (Asked.Refused w) (Asked.No l) n A B = absurd (numbered w n)
+says-one xs i j e (Asked.Refused w) (Asked.Refused x) n A B = ap Asked.Refused (number-one w x n)
 
-pub ask-one : (a : Trace) (xs ys : List ℤ) (k i j : ℕ) (r q : Asked) (u u′ w w′ : List ℤ) → AskGives a xs ys k i j r u w → AskGives a xs ys k i j q u′ w′ → (r ≡ q) × (u ≡ u′) × (w ≡ w′)
-ask-one a xs ys k i j r q u u′ w w′ A B = (
-  says-one xs ys i j (getD (a .tolerances) (k - 1) 0) r q (ask-number-one a xs ys k i j (asked r) (asked q) (A .number) (B .number)) (A .says) (B .says),
-  A .lent .0 ∙ sym (B .lent .0),
-  A .lent .1 ∙ sym (B .lent .1),
+pub ask-one : (a : Trace) (xs : Samples) (k i j : ℕ) (r q : Asked) (u w : Samples) → AskGives a xs k i j r u → AskGives a xs k i j q w → (r ≡ q) × (u ≡ w)
+ask-one a xs k i j r q u w A B = (
+  says-one xs i j (getD (a .tolerances) (k - 1) 0) r q (ask-number-one a xs k i j (asked r) (asked q) (A .number) (B .number)) (A .says) (B .says),
+  A .lent ∙ sym (B .lent),
 )
 
--- where the call is not refused: yes exactly when the stretch is permitted, and no with l exactly when l is the lowest sample that lies too far away
-module _ (a : Trace) (xs ys : List ℤ) (k i j : ℕ) (r : Asked) (u w : List ℤ) (G : AskGives a xs ys k i j r u w) (n : asked r ≡ 0) where
-  pub ask-yes : (r ≡ Asked.Yes) ↔ Permit xs ys (a .tolerances) k i j
-  ask-yes = (λ h. rw h at (G .says), λ p. says-one xs ys i j (getD (a .tolerances) (k - 1) 0) r Asked.Yes n (G .says) p)
+-- where the call is not refused: yes exactly when the stretch is permitted, and no with l exactly when l is the lowest sample that is marked or lies too far away
+module _ (a : Trace) (xs : Samples) (k i j : ℕ) (r : Asked) (u : Samples) (G : AskGives a xs k i j r u) (n : asked r ≡ 0) where
+  pub ask-yes : (r ≡ Asked.Yes) ↔ Permit xs (a .tolerances) k i j
+  ask-yes = (λ h. rw h at (G .says), λ p. says-one xs i j (getD (a .tolerances) (k - 1) 0) r Asked.Yes n (G .says) p)
 
-  pub ask-no : (l : ℕ) → (r ≡ Asked.No l) ↔ Spoiler (Along xs ys i j (getD (a .tolerances) (k - 1) 0)) i j l
-  ask-no l = (λ h. rw h at (G .says), λ s. says-one xs ys i j (getD (a .tolerances) (k - 1) 0) r (Asked.No l) n (G .says) s)
+  pub ask-no : (l : ℕ) → (r ≡ Asked.No l) ↔ Spoiler (Passable xs i j (getD (a .tolerances) (k - 1) 0)) i j l
+  ask-no l = (λ h. rw h at (G .says), λ s. says-one xs i j (getD (a .tolerances) (k - 1) 0) r (Asked.No l) n (G .says) s)
 
 -- ---- read
 pub levels-same : {r q : Levels} → r .outcome ≡ q .outcome → r .segments ≡ q .segments → r .total ≡ q .total → r ≡ q
@@ -111,11 +110,11 @@ levels-same {r} {q} e f g =
 
 pub read-one : (a : Trace) (b : Buffers) (ranks : List ℕ) (r q : Levels) (e f : Buffers) (u w : List ℕ) → ReadGives a b ranks r e u → ReadGives a b ranks q f w → (r ≡ q) × (e ≡ f) × (u ≡ w)
 read-one a b ranks r q e f u w A B =
-    by-number (ReadNumber a (b .across) (b .upward) (b .table) ranks) (read-number-one a (b .across) (b .upward) (b .table) ranks) (r .outcome) (q .outcome) (A .number) (B .number) done refused
+    by-number (ReadNumber a (b .samples) (b .table) ranks) (read-number-one a (b .samples) (b .table) ranks) (r .outcome) (q .outcome) (A .number) (B .number) done refused
   where
     done : r .outcome ≡ q .outcome → r .outcome ≡ Done → q .outcome ≡ Done → (r ≡ q) × (e ≡ f) × (u ≡ w)
     done o h g =
-        let p = read-passed a (b .across) (b .upward) (b .table) ranks (rw h at (A .number)) in
+        let p = read-passed a (b .samples) (b .table) ranks (rw h at (A .number)) in
         let z = p .0 .sized in
         let n = p .0 .held in
         let s = ranks-one (b .table) (a .capacity) (a .levels) (a .held) (z .0) (z .1) (omega arith) (omega arith) (p .1 .cells) ranks u w (r .segments) (q .segments) (r .total) (q .total)

@@ -2,8 +2,9 @@
 use mathlib.Core.Path.{_≡_}
 use mathlib.Core.List.{List}
 use Prim.Native.Nat.{ℕ, _≤_, _<_}
-use lib.IntN.{ℤ, pos}
+use lib.IntN.{pos}
 use lib.ListN.{length, getD}
+use Rattle.geometry.specs.Samples.{Samples}
 use Rattle.table.specs.Table.{cell}
 use Rattle.trace.specs.declared.Trace.{Trace}
 use Rattle.trace.specs.declared.Changed.{Changed}
@@ -16,10 +17,16 @@ pub record AlikeTraces (a c : Trace) : Type 0 where
   pub held : a .held ≡ c .held
   pub tolerances : (l : ℕ) → l < a .levels → getD (a .tolerances) l 0 ≡ getD (c .tolerances) l 0
 
--- coordinate buffers of one length with the same first n places
-pub record AlikeSamples (n : ℕ) (xs us : List ℤ) : Type 0 where
-  pub length : length xs ≡ length us
-  pub each : (q : ℕ) → q < n → getD xs q (pos 0) ≡ getD us q (pos 0)
+-- buffers of one length with the same first n places
+pub record AlikePlaces {A : Type 0} (none : A) (n : ℕ) (s u : List A) : Type 0 where
+  pub length : length s ≡ length u
+  pub each : (q : ℕ) → q < n → getD s q none ≡ getD u q none
+
+-- those of coordinates and marks
+pub record AlikeSamples (n : ℕ) (xs us : Samples) : Type 0 where
+  pub across : AlikePlaces (pos 0) n (xs .across) (us .across)
+  pub upward : AlikePlaces (pos 0) n (xs .upward) (us .upward)
+  pub marks : AlikePlaces 0 n (xs .marks) (us .marks)
 
 -- tables of one length with the same cells of stretches i < j < n, at levels 1 to m
 pub record AlikeCells (N m n : ℕ) (t u : List ℕ) : Type 0 where
@@ -27,8 +34,7 @@ pub record AlikeCells (N m n : ℕ) (t u : List ℕ) : Type 0 where
   pub each : (k i j : ℕ) → 1 ≤ k → k ≤ m → i < j → j < n → cell t N k i j ≡ cell u N k i j
 
 pub record AlikeBuffers (a : Trace) (b d : Buffers) : Type 0 where
-  pub across : AlikeSamples (a .held) (b .across) (d .across)
-  pub upward : AlikeSamples (a .held) (b .upward) (d .upward)
+  pub samples : AlikeSamples (a .held) (b .samples) (d .samples)
   pub table : AlikeCells (a .capacity) (a .levels) (a .held) (b .table) (d .table)
 
 -- answers of put that agree, with all that the next call may read

@@ -4,12 +4,12 @@ use mathlib.Core.Bool.{cond}
 use mathlib.Core.List.{List, _++_}
 use Prim.Native.Nat.{ℕ, _+_, _-_}
 use lib.Dec.{ltb}
-use lib.IntN.{ℤ}
-use lib.ListN.{getD, set, take, replicate}
+use lib.ListN.{getD, take, replicate}
 use Rattle.refusal.specs.declared.Refusal.{Refusal}
 use Rattle.refusal.specs.declared.Outcome.the-variants.{Done, Refused}
 use Rattle.refusal.specs.Number.{number, code}
-use Rattle.geometry.specs.Near.{Along, Permitted}
+use Rattle.geometry.specs.Near.{Passable, Permitted}
+use Rattle.geometry.specs.Samples.{Sample, Samples, store}
 use Rattle.geometry.specs.Spoiler.{Spoiler}
 use Rattle.costs.specs.Costs.{Permit, CellsWritten, named}
 use Rattle.readout.specs.Read.{RanksRead}
@@ -40,12 +40,11 @@ pub record StartGives (m N : ℕ) (tols : List ℕ) (r : Started) : Type 0 where
 -- ---- put
 -- the buffers that are lent
 pub record Buffers : Type 0 where
-  pub across : List ℤ
-  pub upward : List ℤ
+  pub samples : Samples
   pub table : List ℕ
 
-abbrev pub buffers : List ℤ → List ℤ → List ℕ → Buffers
-buffers xs ys t = record { across = xs; upward = ys; table = t }
+abbrev pub buffers : Samples → List ℕ → Buffers
+buffers xs t = record { samples = xs; table = t }
 
 -- how many samples are held once sample v is put among n: as many for a correction, where v is below n, and one more for an addition, where v is n
 abbrev pub heldWith : ℕ → ℕ → ℕ
@@ -55,12 +54,11 @@ heldWith n v = cond (ltb v n) n (n + 1)
 abbrev pub holding : Trace → ℕ → Trace
 holding a n = record { levels = a .levels; capacity = a .capacity; held = n; tolerances = a .tolerances }
 
--- of n samples after the call, sample v is now (x, y), and exactly the cells of stretches with it are written, and counted
-pub record Put (a : Trace) (b : Buffers) (v n : ℕ) (x y : ℤ) (r : Changed) (e : Buffers) : Type 0 where
+-- of n samples after the call, sample v is now x, and exactly the cells of stretches with it are written, and counted
+pub record Put (a : Trace) (b : Buffers) (v n : ℕ) (x : Sample) (r : Changed) (e : Buffers) : Type 0 where
   pub trace : r .trace ≡ holding a n
-  pub across : e .across ≡ set (b .across) v x
-  pub upward : e .upward ≡ set (b .upward) v y
-  pub cells : CellsWritten (a .capacity) (Permit (e .across) (e .upward) (a .tolerances)) (a .levels) v n (b .table) (e .table)
+  pub samples : e .samples ≡ store (b .samples) v x
+  pub cells : CellsWritten (a .capacity) (Permit (e .samples) (a .tolerances)) (a .levels) v n (b .table) (e .table)
   pub count : r .cells ≡ named (a .levels) v n
 
 -- nothing is written, and the trace is the one given
@@ -69,10 +67,10 @@ pub record NotPut (a : Trace) (b : Buffers) (r : Changed) (e : Buffers) : Type 0
   pub lent : e ≡ b
   pub count : r .cells ≡ 0
 
--- a sample (x, y) is put at place v
-pub record PutGives (a : Trace) (b : Buffers) (v : ℕ) (x y : ℤ) (r : Changed) (e : Buffers) : Type 0 where
-  pub number : PutNumber a (b .across) (b .upward) (b .table) v x y (code (r .outcome))
-  pub done : r .outcome ≡ Done → Put a b v (heldWith (a .held) v) x y r e
+-- a sample is put at place v
+pub record PutGives (a : Trace) (b : Buffers) (v : ℕ) (x : Sample) (r : Changed) (e : Buffers) : Type 0 where
+  pub number : PutNumber a (b .samples) (b .table) v x (code (r .outcome))
+  pub done : r .outcome ≡ Done → Put a b v (heldWith (a .held) v) x r e
   pub refused : (why : Refusal) → r .outcome ≡ Refused why → NotPut a b r e
 
 -- ---- ask
@@ -82,16 +80,16 @@ asked Asked.Yes = 0
 asked (Asked.No q) = 0
 asked (Asked.Refused why) = number why
 
--- what an answer says of the stretch (i, j) at a tolerance: yes that it is permitted, no that q is the lowest sample that lies too far away, a refusal neither
-abbrev pub Says : List ℤ → List ℤ → ℕ → ℕ → ℕ → Asked → Type 0
-Says xs ys i j e Asked.Yes = Permitted xs ys i j e
-Says xs ys i j e (Asked.No q) = Spoiler (Along xs ys i j e) i j q
-Says xs ys i j e (Asked.Refused why) = Unit {0}
+-- what an answer says of the stretch (i, j) at a tolerance: yes that it is permitted, no that q is the lowest sample that is marked or lies too far away, a refusal neither
+abbrev pub Says : Samples → ℕ → ℕ → ℕ → Asked → Type 0
+Says xs i j e Asked.Yes = Permitted xs i j e
+Says xs i j e (Asked.No q) = Spoiler (Passable xs i j e) i j q
+Says xs i j e (Asked.Refused why) = Unit {0}
 
-pub record AskGives (a : Trace) (xs ys : List ℤ) (k i j : ℕ) (r : Asked) (xs′ ys′ : List ℤ) : Type 0 where
-  pub number : AskNumber a xs ys k i j (asked r)
-  pub says : Says xs ys i j (getD (a .tolerances) (k - 1) 0) r
-  pub lent : (xs′ ≡ xs) × (ys′ ≡ ys)
+pub record AskGives (a : Trace) (xs : Samples) (k i j : ℕ) (r : Asked) (xs′ : Samples) : Type 0 where
+  pub number : AskNumber a xs k i j (asked r)
+  pub says : Says xs i j (getD (a .tolerances) (k - 1) 0) r
+  pub lent : xs′ ≡ xs
 
 -- ---- read
 -- no ranks are written, and every count is zero
@@ -101,7 +99,7 @@ pub record NotRead (ranks : List ℕ) (r : Levels) (ranks′ : List ℕ) : Type 
   pub total : r .total ≡ 0
 
 pub record ReadGives (a : Trace) (b : Buffers) (ranks : List ℕ) (r : Levels) (e : Buffers) (ranks′ : List ℕ) : Type 0 where
-  pub number : ReadNumber a (b .across) (b .upward) (b .table) ranks (code (r .outcome))
+  pub number : ReadNumber a (b .samples) (b .table) ranks (code (r .outcome))
   pub done : r .outcome ≡ Done → RanksRead (b .table) (a .capacity) (a .levels) (a .held) ranks ranks′ (r .segments) (r .total)
   pub refused : (why : Refusal) → r .outcome ≡ Refused why → NotRead ranks r ranks′
   pub lent : e ≡ b

@@ -3,10 +3,11 @@ use mathlib.Core.Path.{_≡_}
 use mathlib.Core.Logic.{_⊎_}
 use mathlib.Core.List.{List}
 use Prim.Native.Nat.{ℕ, _+_, _*_, _≤_, _<_}
-use lib.IntN.{ℤ, pos}
 use lib.ListN.{length, getD}
 use Rattle.refusal.specs.Check.{First}
 use Rattle.geometry.specs.Coordinate.{Coord}
+use Rattle.geometry.specs.Mark.{Mark}
+use Rattle.geometry.specs.Samples.{Sample, Samples, sampleAt}
 use Rattle.family.specs.Fine.{Checked}
 use Rattle.table.specs.Table.{cell}
 use Rattle.trace.specs.declared.Trace.{Trace}
@@ -21,16 +22,20 @@ pub record Tolerances (m : ℕ) (tols : List ℕ) : Type 0 where
   pub high : (l : ℕ) → l < m → getD tols l 0 ≤ 32768
   pub rise : (l : ℕ) → l + 1 < m → getD tols l 0 < getD tols (l + 1) 0
 
--- the coordinate buffers have N places; the table m · N · N cells
-abbrev pub LentSamples : Trace → List ℤ → List ℤ → Type 0
-LentSamples a xs ys = (a .capacity ≤ length xs) × (a .capacity ≤ length ys)
+-- the buffers of coordinates and marks have N places; the table m · N · N cells
+abbrev pub LentSamples : Trace → Samples → Type 0
+LentSamples a xs = (a .capacity ≤ length (xs .across)) × (a .capacity ≤ length (xs .upward)) × (a .capacity ≤ length (xs .marks))
 
 abbrev pub LentTable : Trace → List ℕ → Type 0
 LentTable a t = a .levels * (a .capacity * a .capacity) ≤ length t
 
--- the coordinates of the samples held are in range; their cells pass check 5
-abbrev pub StoredSamples : Trace → List ℤ → List ℤ → Type 0
-StoredSamples a xs ys = (q : ℕ) → q < a .held → Coord (getD xs q (pos 0)) × Coord (getD ys q (pos 0))
+-- a sample's coordinates are in range, and its mark is 0 or 1
+abbrev pub Valid : Sample → Type 0
+Valid x = Coord (x .across) × Coord (x .upward) × Mark (x .mark)
+
+-- each sample held is valid; their cells pass check 5
+abbrev pub StoredSamples : Trace → Samples → Type 0
+StoredSamples a xs = (q : ℕ) → q < a .held → Valid (sampleAt xs q)
 
 abbrev pub StoredCells : Trace → List ℕ → Type 0
 StoredCells a t = Checked (cell t (a .capacity)) (a .levels) (a .held)
@@ -60,23 +65,23 @@ PlaceNumber a v rest =
     First 7 ((v ≡ a .held) × (a .held ≡ a .capacity))
     (First 8 (a .held < v) rest)
 
-abbrev pub PutNumber : Trace → List ℤ → List ℤ → List ℕ → ℕ → ℤ → ℤ → ℕ → Type 0
-PutNumber a xs ys t v x y =
-    TraceNumber a (LentSamples a xs ys × LentTable a t) (StoredSamples a xs ys × StoredCells a t)
-    (First 6 (Coord x × Coord y → ⊥)
+abbrev pub PutNumber : Trace → Samples → List ℕ → ℕ → Sample → ℕ → Type 0
+PutNumber a xs t v x =
+    TraceNumber a (LentSamples a xs × LentTable a t) (StoredSamples a xs × StoredCells a t)
+    (First 6 (Valid x → ⊥)
     (PlaceNumber a v Good))
 
 -- no such stretch, or no such level
 abbrev pub Absent : Trace → ℕ → ℕ → ℕ → Type 0
 Absent a k i j = (j ≤ i) ⊎ (a .held ≤ j) ⊎ (k < 1) ⊎ (a .levels < k)
 
-abbrev pub AskNumber : Trace → List ℤ → List ℤ → ℕ → ℕ → ℕ → ℕ → Type 0
-AskNumber a xs ys k i j =
-    TraceNumber a (LentSamples a xs ys) (StoredSamples a xs ys)
+abbrev pub AskNumber : Trace → Samples → ℕ → ℕ → ℕ → ℕ → Type 0
+AskNumber a xs k i j =
+    TraceNumber a (LentSamples a xs) (StoredSamples a xs)
     (First 8 (Absent a k i j) Good)
 
 -- the rank buffer has n bytes
-abbrev pub ReadNumber : Trace → List ℤ → List ℤ → List ℕ → List ℕ → ℕ → Type 0
-ReadNumber a xs ys t ranks =
-    TraceNumber a (LentSamples a xs ys × LentTable a t × (a .held ≤ length ranks)) (StoredSamples a xs ys × StoredCells a t)
+abbrev pub ReadNumber : Trace → Samples → List ℕ → List ℕ → ℕ → Type 0
+ReadNumber a xs t ranks =
+    TraceNumber a (LentSamples a xs × LentTable a t × (a .held ≤ length ranks)) (StoredSamples a xs × StoredCells a t)
     (First 9 (a .held < 2) Good)

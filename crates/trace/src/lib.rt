@@ -2,11 +2,14 @@
 ghost use mathlib.Core.Path.{_≡_};
 ghost use Prim.Native.Nat.{_*_, _≤_};
 ghost use lib.ListN.{length};
+ghost use Rattle.geometry.specs.Samples.{sample, samples};
 ghost use Rattle.trace.specs.Calls.{buffers, kept, heldWith, StartGives, PutGives, AskGives, ReadGives};
 ghost use Rattle.trace.specs.Rows.{setupOk, tolerancesOk, setupOutcome, lentOk, lentOutcome, samplesOk, storedOk, sampleOk, stretchOk, traceOutcome, placeOutcome, putOutcome, askOutcome, readOutcome, Ready, Changes};
 use geometry::Verdict;
 use geometry::coordinate_ok;
 use geometry::coordinates_ok;
+use geometry::mark_ok;
+use geometry::marks_ok;
 use refusal::Outcome;
 use refusal::Refusal;
 use refusal::and_then;
@@ -33,7 +36,7 @@ pub struct Changed {
     pub cells: usize,
 }
 
-// Whether a stretch is permitted: yes, or no with the lowest sample that lies too far away.
+// Whether a stretch is permitted: yes, or no with the lowest sample that is marked or lies too far away.
 pub enum Asked {
     Yes,
     No(usize),
@@ -128,25 +131,42 @@ fn keep(m: usize, tolerances: [u32; 16]) -> [u32; 16]
     out
 }
 
-// Whether the coordinates of a new sample are in range.
-fn sample_ok(x: i16, y: i16) -> bool
-    ensures { λ r. ⌜ r ≡ sampleOk x y ⌝ }
+// Whether the coordinates and the mark of a new sample are in range.
+fn sample_ok(x: i16, y: i16, mark: u8) -> bool
+    ensures { λ r. ⌜ r ≡ sampleOk (sample x y mark) ⌝ }
 {
-    coordinate_ok(x) && coordinate_ok(y)
+    if !coordinate_ok(x) {
+        return false;
+    }
+    if !coordinate_ok(y) {
+        return false;
+    }
+    mark_ok(mark)
 }
 
 // The checks. Lengths of buffers are those lent.
 impl Trace {
     // Whether the buffers are long enough for a call that uses so many levels of the table.
-    fn lent_ok(self, levels: usize, xs: usize, ys: usize, cells: usize, bytes: usize) -> bool
+    fn lent_ok(
+        self,
+        levels: usize,
+        xs: usize,
+        ys: usize,
+        marks: usize,
+        cells: usize,
+        bytes: usize,
+    ) -> bool
         requires { ⌜ (levels ≤ 16) × (self .capacity ≤ 256) ⌝ }
-        ensures { λ r. ⌜ r ≡ lentOk self levels xs ys cells bytes ⌝ }
+        ensures { λ r. ⌜ r ≡ lentOk self levels xs ys marks cells bytes ⌝ }
     {
         let cap = self.capacity;
         if xs < cap {
             return false;
         }
         if ys < cap {
+            return false;
+        }
+        if marks < cap {
             return false;
         }
         if cells < levels * (cap * cap) {
@@ -161,37 +181,48 @@ impl Trace {
         levels: usize,
         xs: usize,
         ys: usize,
+        marks: usize,
         cells: usize,
         bytes: usize,
     ) -> Outcome
         requires { ⌜ levels ≤ self .levels ⌝ }
-        ensures { λ r. ⌜ r ≡ lentOutcome self levels xs ys cells bytes ⌝ }
+        ensures { λ r. ⌜ r ≡ lentOutcome self levels xs ys marks cells bytes ⌝ }
     {
         let tolerances = self.tolerances;
         let o = setup_outcome(self.levels, self.capacity, tolerances);
         let Outcome::Done = o else {
             return o;
         };
-        let lent = unless(self.lent_ok(levels, xs, ys, cells, bytes), Refusal::Buffer);
+        let lent = unless(
+            self.lent_ok(levels, xs, ys, marks, cells, bytes),
+            Refusal::Buffer,
+        );
         let held = unless(self.held <= self.capacity, Refusal::Held);
         and_then(lent, held)
     }
 
-    // Whether the coordinates of the samples held are in range.
-    fn samples_ok(self, xs: &[i16], ys: &[i16]) -> bool
-        requires { ⌜ (self .held ≤ length (now xs)) × (self .held ≤ length (now ys)) ⌝ }
-        ensures { λ r. ⌜ r ≡ samplesOk self (now (xs .entry)) (now (ys .entry)) ⌝ }
+    // Whether the coordinates and marks of the samples held are in range.
+    fn samples_ok(self, xs: &[i16], ys: &[i16], marks: &[u8]) -> bool
+        requires { ⌜ (self .held ≤ length (now xs)) × (self .held ≤ length (now ys)) × (self .held ≤ length (now marks)) ⌝ }
+        ensures { λ r. ⌜ r ≡ samplesOk self (samples (now (xs .entry)) (now (ys .entry)) (now (marks .entry))) ⌝ }
     {
-        coordinates_ok(xs, self.held) && coordinates_ok(ys, self.held)
+        if !coordinates_ok(xs, self.held) {
+            return false;
+        }
+        if !coordinates_ok(ys, self.held) {
+            return false;
+        }
+        marks_ok(marks, self.held)
     }
 
     // Whether they are, and the cells of their stretches may hold what they hold.
-    fn stored_ok(self, xs: &[i16], ys: &[i16], table: &[u16]) -> bool
-        requires { ⌜ (self .held ≤ length (now xs)) × (self .held ≤ length (now ys)) ⌝ }
+    fn stored_ok(self, xs: &[i16], ys: &[i16], marks: &[u8], table: &[u16]) -> bool
+        requires { ⌜ (self .held ≤ length (now xs)) × (self .held ≤ length (now ys)) × (self .held ≤ length (now marks)) ⌝ }
         requires { ⌜ (self .levels ≤ 16) × (self .capacity ≤ 256) × (self .levels * (self .capacity * self .capacity) ≤ length (now table)) × (self .held ≤ self .capacity) ⌝ }
-        ensures { λ r. ⌜ r ≡ storedOk self (now (xs .entry)) (now (ys .entry)) (now (table .entry)) ⌝ }
+        ensures { λ r. ⌜ r ≡ storedOk self (samples (now (xs .entry)) (now (ys .entry)) (now (marks .entry))) (now (table .entry)) ⌝ }
     {
-        self.samples_ok(xs, ys) && table::cells_ok(table, self.capacity, self.held, self.levels)
+        self.samples_ok(xs, ys, marks)
+            && table::cells_ok(table, self.capacity, self.held, self.levels)
     }
 
     // Whether there is such a stretch, and such a level.
@@ -211,14 +242,28 @@ impl Trace {
     }
 
     // Refusals 1 to 5 of a call that is lent the table.
-    fn trace_outcome(self, xs: &[i16], ys: &[i16], table: &[u16], bytes: usize) -> Outcome
-        ensures { λ r. ⌜ r ≡ traceOutcome self (now (xs .entry)) (now (ys .entry)) (now (table .entry)) bytes ⌝ }
+    fn trace_outcome(
+        self,
+        xs: &[i16],
+        ys: &[i16],
+        marks: &[u8],
+        table: &[u16],
+        bytes: usize,
+    ) -> Outcome
+        ensures { λ r. ⌜ r ≡ traceOutcome self (samples (now (xs .entry)) (now (ys .entry)) (now (marks .entry))) (now (table .entry)) bytes ⌝ }
     {
-        let o = self.lent_outcome(self.levels, xs.len(), ys.len(), table.len(), bytes);
+        let o = self.lent_outcome(
+            self.levels,
+            xs.len(),
+            ys.len(),
+            marks.len(),
+            table.len(),
+            bytes,
+        );
         let Outcome::Done = o else {
             return o;
         };
-        unless(self.stored_ok(xs, ys, table), Refusal::Stored)
+        unless(self.stored_ok(xs, ys, marks, table), Refusal::Stored)
     }
 
     // Refusals 7 and 8 of a place: the next one needs room, and there is none past it.
@@ -232,33 +277,58 @@ impl Trace {
     }
 
     // Refusals 1 to 8 of a sample at place v.
-    fn put_outcome(self, xs: &[i16], ys: &[i16], table: &[u16], v: usize, x: i16, y: i16) -> Outcome
-        ensures { λ r. ⌜ r ≡ putOutcome self (now (xs .entry)) (now (ys .entry)) (now (table .entry)) v x y ⌝ }
+    fn put_outcome(
+        self,
+        xs: &[i16],
+        ys: &[i16],
+        marks: &[u8],
+        table: &[u16],
+        v: usize,
+        x: i16,
+        y: i16,
+        mark: u8,
+    ) -> Outcome
+        ensures { λ r. ⌜ r ≡ putOutcome self (samples (now (xs .entry)) (now (ys .entry)) (now (marks .entry))) (now (table .entry)) v (sample x y mark) ⌝ }
     {
-        let o = self.trace_outcome(xs, ys, table, self.held);
-        let sample = unless(sample_ok(x, y), Refusal::Coordinate);
+        let o = self.trace_outcome(xs, ys, marks, table, self.held);
+        let sample = unless(sample_ok(x, y, mark), Refusal::Coordinate);
         let place = self.place_outcome(v);
         and_then(o, and_then(sample, place))
     }
 
     // Refusals 1 to 5, without a table, and 8.
-    fn ask_outcome(self, xs: &[i16], ys: &[i16], k: usize, i: usize, j: usize) -> Outcome
-        ensures { λ r. ⌜ r ≡ askOutcome self (now (xs .entry)) (now (ys .entry)) k i j ⌝ }
+    fn ask_outcome(
+        self,
+        xs: &[i16],
+        ys: &[i16],
+        marks: &[u8],
+        k: usize,
+        i: usize,
+        j: usize,
+    ) -> Outcome
+        ensures { λ r. ⌜ r ≡ askOutcome self (samples (now (xs .entry)) (now (ys .entry)) (now (marks .entry))) k i j ⌝ }
     {
-        let o = self.lent_outcome(0, xs.len(), ys.len(), 0, self.held);
+        let o = self.lent_outcome(0, xs.len(), ys.len(), marks.len(), 0, self.held);
         let Outcome::Done = o else {
             return o;
         };
-        let stored = unless(self.samples_ok(xs, ys), Refusal::Stored);
+        let stored = unless(self.samples_ok(xs, ys, marks), Refusal::Stored);
         let there = unless(self.stretch_ok(k, i, j), Refusal::Missing);
         and_then(stored, there)
     }
 
     // Refusals 1 to 5 and 9.
-    fn read_outcome(self, xs: &[i16], ys: &[i16], table: &[u16], bytes: usize) -> Outcome
-        ensures { λ r. ⌜ r ≡ readOutcome self (now (xs .entry)) (now (ys .entry)) (now (table .entry)) bytes ⌝ }
+    fn read_outcome(
+        self,
+        xs: &[i16],
+        ys: &[i16],
+        marks: &[u8],
+        table: &[u16],
+        bytes: usize,
+    ) -> Outcome
+        ensures { λ r. ⌜ r ≡ readOutcome self (samples (now (xs .entry)) (now (ys .entry)) (now (marks .entry))) (now (table .entry)) bytes ⌝ }
     {
-        let o = self.trace_outcome(xs, ys, table, bytes);
+        let o = self.trace_outcome(xs, ys, marks, table, bytes);
         let enough = unless(2 <= self.held, Refusal::Few);
         and_then(o, enough)
     }
@@ -277,24 +347,37 @@ impl Trace {
         self.held + 1
     }
 
-    // Make sample v (x, y), of n samples then held, and rewrite the cells of the stretches with it.
+    // Make sample v (x, y) with this mark, of n samples then held, and rewrite the cells of the stretches with it.
     fn change(
         self,
         xs: &mut [i16],
         ys: &mut [i16],
+        marks: &mut [u8],
         table: &mut [u16],
         v: usize,
         n: usize,
         x: i16,
         y: i16,
+        mark: u8,
     ) -> Changed
-        requires { ⌜ Ready self (now xs) (now ys) (now table) v n x y ⌝ }
-        ensures { λ r. ⌜ Changes self (now (xs .entry)) (now (ys .entry)) (now (table .entry)) v n x y r (now (xs .exit)) (now (ys .exit)) (now (table .exit)) ⌝ }
+        requires { ⌜ Ready self (samples (now xs) (now ys) (now marks)) (now table) v n (sample x y mark) ⌝ }
+        ensures { λ r. ⌜ Changes self (samples (now (xs .entry)) (now (ys .entry)) (now (marks .entry))) (now (table .entry)) v n (sample x y mark) r (samples (now (xs .exit)) (now (ys .exit)) (now (marks .exit))) (now (table .exit)) ⌝ }
     {
         xs[v] = x;
         ys[v] = y;
+        marks[v] = mark;
         let tolerances = self.tolerances;
-        let cells = costs::rewrite(table, xs, ys, &tolerances, self.capacity, self.levels, v, n);
+        let cells = costs::rewrite(
+            table,
+            xs,
+            ys,
+            marks,
+            &tolerances,
+            self.capacity,
+            self.levels,
+            v,
+            n,
+        );
         let mut next = self;
         next.held = n;
         Changed {
@@ -337,14 +420,16 @@ impl Trace {
         self,
         xs: &mut [i16],
         ys: &mut [i16],
+        marks: &mut [u8],
         table: &mut [u16],
         v: usize,
         x: i16,
         y: i16,
+        mark: u8,
     ) -> Changed
-        ensures { λ r. ⌜ PutGives self (buffers (now (xs .entry)) (now (ys .entry)) (now (table .entry))) v x y r (buffers (now (xs .exit)) (now (ys .exit)) (now (table .exit))) ⌝ }
+        ensures { λ r. ⌜ PutGives self (buffers (samples (now (xs .entry)) (now (ys .entry)) (now (marks .entry))) (now (table .entry))) v (sample x y mark) r (buffers (samples (now (xs .exit)) (now (ys .exit)) (now (marks .exit))) (now (table .exit))) ⌝ }
     {
-        let o = self.put_outcome(xs, ys, table, v, x, y);
+        let o = self.put_outcome(xs, ys, marks, table, v, x, y, mark);
         let Outcome::Done = o else {
             return Changed {
                 outcome: o,
@@ -353,19 +438,19 @@ impl Trace {
             };
         };
         let n = self.held_with(v);
-        self.change(xs, ys, table, v, n, x, y)
+        self.change(xs, ys, marks, table, v, n, x, y, mark)
     }
 
     // Whether the stretch from sample i to sample j is permitted at level k.
-    pub fn ask(self, xs: &[i16], ys: &[i16], k: usize, i: usize, j: usize) -> Asked
-        ensures { λ r. ⌜ AskGives self (now (xs .entry)) (now (ys .entry)) k i j r (now (xs .exit)) (now (ys .exit)) ⌝ }
+    pub fn ask(self, xs: &[i16], ys: &[i16], marks: &[u8], k: usize, i: usize, j: usize) -> Asked
+        ensures { λ r. ⌜ AskGives self (samples (now (xs .entry)) (now (ys .entry)) (now (marks .entry))) k i j r (samples (now (xs .exit)) (now (ys .exit)) (now (marks .exit))) ⌝ }
     {
-        let o = self.ask_outcome(xs, ys, k, i, j);
+        let o = self.ask_outcome(xs, ys, marks, k, i, j);
         if let Outcome::Refused(why) = o {
             return Asked::Refused(why);
         }
         let tolerances = self.tolerances;
-        let verdict = geometry::judge(xs, ys, i, j, tolerances[k - 1], i + 1);
+        let verdict = geometry::permitted(xs, ys, marks, i, j, tolerances[k - 1]);
         match verdict {
             Verdict::Yes => Asked::Yes,
             Verdict::No(spoiler) => Asked::No(spoiler),
@@ -373,10 +458,17 @@ impl Trace {
     }
 
     // Write the ranks of the samples held, and count the segments of each level.
-    pub fn read(self, xs: &[i16], ys: &[i16], table: &[u16], ranks: &mut [u8]) -> Levels
-        ensures { λ r. ⌜ ReadGives self (buffers (now (xs .entry)) (now (ys .entry)) (now (table .entry))) (now (ranks .entry)) r (buffers (now (xs .exit)) (now (ys .exit)) (now (table .exit))) (now (ranks .exit)) ⌝ }
+    pub fn read(
+        self,
+        xs: &[i16],
+        ys: &[i16],
+        marks: &[u8],
+        table: &[u16],
+        ranks: &mut [u8],
+    ) -> Levels
+        ensures { λ r. ⌜ ReadGives self (buffers (samples (now (xs .entry)) (now (ys .entry)) (now (marks .entry))) (now (table .entry))) (now (ranks .entry)) r (buffers (samples (now (xs .exit)) (now (ys .exit)) (now (marks .exit))) (now (table .exit))) (now (ranks .exit)) ⌝ }
     {
-        let o = self.read_outcome(xs, ys, table, ranks.len());
+        let o = self.read_outcome(xs, ys, marks, table, ranks.len());
         let Outcome::Done = o else {
             return Levels {
                 outcome: o,

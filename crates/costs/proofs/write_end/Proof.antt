@@ -3,6 +3,8 @@ use mathlib.Core.Path.{_≡_}
 use mathlib.Core.Logic.{inl, inr, ⊎-elim}
 use Prim.Native.Nat.{_+_, min}
 use native.Mathlib.Omega.{arith}
+use Rattle.geometry.specs.Samples.{samples}
+use Rattle.costs.specs.Walk.{perm}
 use Rattle.costs.proofs.Perm.{perm-adjacent, finest-near}
 use Rattle.costs.proofs.Rows.{rows-said}
 use borrow.Author.Needs.{needs}
@@ -21,7 +23,7 @@ write-rows-requires c κs =
     let a = s .before .before .before .args in
     let p = s .before .before .before .pre in
     let e : s .starts .result ≡ min (a .j) (a .v + 1) = s .starts .ensures in
-    (omega arith, (p .1 .0 .2, (λ k x u w z o. p .1 .1 k x u w z (⊎-elim (λ y. inl y) (λ y. inr (omega arith)) o), λ x u w. finest-near _ (perm-adjacent _ _) _ _ _ _ (c .before .before .finests .ensures x w) u (omega arith))))
+    (omega arith, (p .1 .0 .2, (λ k x u w z o. p .1 .1 k x u w z (⊎-elim (λ y. inl y) (λ y. inr (omega arith)) o), λ x u w. finest-near _ (perm-adjacent (samples (a .xs .now) (a .ys .now) (a .marks .now)) (a .tolerances .now)) _ _ _ _ (c .before .before .finests .ensures x w) u (omega arith))))
 
 same-length : tie.Need-same-length
 same-length c = search needs
@@ -33,7 +35,7 @@ returns c =
     let e : s .starts .result ≡ min (a .j) (a .v + 1) = s .starts .ensures in
     let f = c .before .before .before .before .before .finests .ensures in
     let w = c .before .before .write-rows .ensures in
-    (rw e at (w .0), rw e at (rows-said _ _ _ _ _ _ _ _ (omega arith) (omega arith) f (w .1)))
+    (rw e at (w .0), rw e at (rows-said _ (perm (samples (a .xs .now) (a .ys .now) (a .marks .now)) (a .tolerances .now)) _ _ _ _ _ _ (omega arith) (omega arith) f (w .1)))
 
 pub write-end-spec : {M : Type 1} → statement M
 write-end-spec =

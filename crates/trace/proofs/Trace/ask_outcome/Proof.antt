@@ -12,8 +12,8 @@ use Rattle.trace.proofs.Trace.ask_outcome.Tie as tie
 
 -- in the arm that goes on checks 1 to 4 have passed
 passed : (c : tie.After-enum-told) →
-    let a = c .before .before .before .args in
-    lentOutcome (a .self) 0 (length (a .xs .now)) (length (a .ys .now)) 0 (a .self .held) ≡ Done
+    let a = c .before .before .before .before .args in
+    lentOutcome (a .self) 0 (length (a .xs .now)) (length (a .ys .now)) (length (a .marks .now)) 0 (a .self .held) ≡ Done
 passed c = sym (c .before .before .lent-outcome .ensures) ∙ c .enum-told .given .1
 
 lent-outcome-requires : tie.Need-lent-outcome-requires
@@ -30,7 +30,7 @@ unfolding askOutcome
 returns c = then-refused _ (c .before .before .lent-outcome .ensures) (c .enum-told2 .given .1)
 
 samples-ok-requires : tie.Need-samples-ok-requires
-samples-ok-requires c κs = let h = lent-done _ _ _ _ _ _ (passed c) in (omega (arith, h .held, h .long .0), omega (arith, h .held, h .long .1))
+samples-ok-requires c κs = let h = lent-done _ _ _ _ _ _ _ (passed c) in (omega (arith, h .held, h .long .0), omega (arith, h .held, h .long .1), omega (arith, h .held, h .long .2))
 
 unless-requires : tie.Need-unless-requires
 unless-requires c κs = search needs

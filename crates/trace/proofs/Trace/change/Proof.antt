@@ -1,9 +1,11 @@
--- `trace::Trace::change` meets its contract: the stores are the two `set`, and the walk does the rest. Assumes nothing.
-use mathlib.Core.Path.{refl, ap}
+-- `trace::Trace::change` meets its contract: the stores are `store`, and the walk does the rest. Assumes nothing.
+use mathlib.Core.Path.{refl, ap₂}
 use native.Mathlib.Omega.{arith}
+use lib.IntN.{ℤ}
 use lib.ListN.{set, length-set}
 use mir.Facts.{toZ-ofZ}
 use borrow.Author.Needs.{needs}
+use Rattle.geometry.specs.Samples.{samples}
 use Rattle.trace.proofs.Trace.change.Statement.{statement}
 use Rattle.trace.proofs.Trace.change.Tie as tie
 
@@ -12,24 +14,27 @@ mul-x c = search needs
 
 slice-set-from-x : tie.Need-slice-set-from-x
 slice-set-from-x c =
-    let a = c .before .args in
-    omega (arith, length-set (a .xs .now) (a .v) (a .x), c .before .pre .across .held)
+    let s = c .before .before in
+    omega (arith, length-set (s .args .xs .now) (s .args .v) (s .args .x), s .pre .ranged .across .held)
 
 mul-y : tie.Need-mul-y
 mul-y c = search needs
 
 slice-set-from-y : tie.Need-slice-set-from-y
 slice-set-from-y c =
-    let a = c .before .args in
-    omega (arith, length-set (a .ys .now) (a .v) (a .y), c .before .pre .upward .held)
+    let s = c .before .before in
+    omega (arith, length-set (s .args .ys .now) (s .args .v) (s .args .y), s .pre .ranged .upward .held)
+
+slice-write-marks : tie.Need-slice-write-marks
+slice-write-marks c = search needs
 
 rewrite-requires : tie.Need-rewrite-requires
 rewrite-requires c κs =
-    let s = c .before .before .before .before .before .before in
+    let s = c .before .before .before .before .before .before .before .before in
     let p = s .pre in
     let z = p .sizes in (
       (z .0, z .1, z .2, z .3, z .4, p .rising),
-      ((rw (toZ-ofZ (s .fits .x)) (p .across), rw (toZ-ofZ (s .fits .y)) (p .upward), p .room), p .steps),
+      ((rw (toZ-ofZ (s .fits .x), toZ-ofZ (s .fits .y)) (p .ranged), rw (length-set (s .args .marks .now) (s .args .v) (s .args .mark)) (p .marks), p .room), p .steps),
     )
 
 same-length : tie.Need-same-length
@@ -41,15 +46,18 @@ same-length-2 c = search needs
 same-length-3 : tie.Need-same-length-3
 same-length-3 c = search needs
 
+same-length-4 : tie.Need-same-length-4
+same-length-4 c = search needs
+
 returns : tie.Need-returns
 returns c =
-    let s = c .before .before .before .before .before .before .before .before .before in
+    let s = c .before .before .before .before .before .before .before .before .before .before .before in
+    let a = s .args in
     let w = c .before .before .rewrite .ensures in
     record {
       outcome = refl;
       trace = refl;
-      across = ap (set (s .args .xs .now) (s .args .v)) (toZ-ofZ (s .fits .x));
-      upward = ap (set (s .args .ys .now) (s .args .v)) (toZ-ofZ (s .fits .y));
+      samples = ap₂ (λ (x y : ℤ). samples (set (a .xs .now) (a .v) x) (set (a .ys .now) (a .v) y) (set (a .marks .now) (a .v) (a .mark))) (toZ-ofZ (s .fits .x)) (toZ-ofZ (s .fits .y));
       cells = rw (toZ-ofZ (s .fits .x), toZ-ofZ (s .fits .y)) at (w .1);
       count = w .0;
     }
@@ -62,8 +70,10 @@ change-spec =
     slice-set-from-x
     mul-y
     slice-set-from-y
+    slice-write-marks
     rewrite-requires
     same-length
     same-length-2
     same-length-3
+    same-length-4
     returns)

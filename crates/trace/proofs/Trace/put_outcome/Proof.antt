@@ -29,7 +29,7 @@ returns c =
     let p = c .before .before in
     let u = p .before in
     let d = u .before in
-    let s = d .before .before .before in
+    let s = d .before .before .before .before in
     rw (c .and-then2 .ensures, c .before .and-then .ensures, p .place-outcome .ensures, u .unless .ensures, d .sample-ok .ensures, toZ-ofZ (s .fits .x), toZ-ofZ (s .fits .y), d .before .trace-outcome .ensures)
 
 pub put-outcome-spec : {M : Type 1} → statement M

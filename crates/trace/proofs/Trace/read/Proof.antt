@@ -5,6 +5,7 @@ use native.Mathlib.Omega.{arith}
 use lib.ListN.{length}
 use borrow.Author.Needs.{needs}
 use Rattle.refusal.specs.Number.{code}
+use Rattle.geometry.specs.Samples.{samples}
 use Rattle.trace.specs.Numbers.{ReadNumber}
 use Rattle.trace.proofs.Numbers.{read-number}
 use Rattle.trace.proofs.Passed.{Passed, PassedTable, read-passed}
@@ -15,17 +16,17 @@ use Rattle.trace.proofs.Trace.read.Tie as tie
 
 -- the number that the checks gave
 number : (c : tie.After-read-outcome) →
-    let a = c .before .before .before .args in
-    ReadNumber (a .self) (a .xs .now) (a .ys .now) (a .table .now) (a .ranks .now) (code (c .read-outcome .result))
+    let a = c .before .before .before .before .args in
+    ReadNumber (a .self) (samples (a .xs .now) (a .ys .now) (a .marks .now)) (a .table .now) (a .ranks .now) (code (c .read-outcome .result))
 number c =
-    let a = c .before .before .before .args in
-    rw (c .read-outcome .ensures) (read-number (a .self) (a .xs .now) (a .ys .now) (a .table .now) (a .ranks .now))
+    let a = c .before .before .before .before .args in
+    rw (c .read-outcome .ensures) (read-number (a .self) (samples (a .xs .now) (a .ys .now) (a .marks .now)) (a .table .now) (a .ranks .now))
 
 -- where they refused nothing
 passed : (c : tie.After-enum-told) →
-    let a = c .before .before .before .before .before .args in
-    Passed (a .self) (a .xs .now) (a .ys .now) × PassedTable (a .self) (a .table .now) × (a .self .held ≤ length (a .ranks .now)) × (2 ≤ a .self .held)
-passed c = read-passed _ _ _ _ (c .before .before .before .before .before .args .ranks .now) (rw (c .enum-told .given .1) at (number (c .before .before)))
+    let a = c .before .before .before .before .before .before .args in
+    Passed (a .self) (samples (a .xs .now) (a .ys .now) (a .marks .now)) × PassedTable (a .self) (a .table .now) × (a .self .held ≤ length (a .ranks .now)) × (2 ≤ a .self .held)
+passed c = read-passed _ _ _ (c .before .before .before .before .before .before .args .ranks .now) (rw (c .enum-told .given .1) at (number (c .before .before)))
 
 read-outcome-requires : tie.Need-read-outcome-requires
 read-outcome-requires c κs = search needs

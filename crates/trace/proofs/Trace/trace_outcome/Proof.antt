@@ -12,8 +12,8 @@ use Rattle.trace.proofs.Trace.trace_outcome.Tie as tie
 
 -- in the arm that goes on checks 1 to 4 have passed
 passed : (c : tie.After-enum-told) →
-    let a = c .before .before .before .before .args in
-    lentOutcome (a .self) (a .self .levels) (length (a .xs .now)) (length (a .ys .now)) (length (a .table .now)) (a .bytes) ≡ Done
+    let a = c .before .before .before .before .before .args in
+    lentOutcome (a .self) (a .self .levels) (length (a .xs .now)) (length (a .ys .now)) (length (a .marks .now)) (length (a .table .now)) (a .bytes) ≡ Done
 passed c = sym (c .before .before .lent-outcome .ensures) ∙ c .enum-told .given .1
 
 lent-outcome-requires : tie.Need-lent-outcome-requires
@@ -31,10 +31,10 @@ returns c = then-refused _ (c .before .before .lent-outcome .ensures) (c .enum-t
 
 stored-ok-requires : tie.Need-stored-ok-requires
 stored-ok-requires c κs =
-    let h = lent-done _ _ _ _ _ _ (passed c) in
+    let h = lent-done _ _ _ _ _ _ _ (passed c) in
     let n = h .held in
     let z = h .sized in
-    ((omega (arith, h .long .0), omega (arith, h .long .1)), (z .1, z .3, h .long .2, n))
+    ((omega (arith, h .long .0), omega (arith, h .long .1), omega (arith, h .long .2)), (z .1, z .3, h .long .3, n))
 
 unless-requires : tie.Need-unless-requires
 unless-requires c κs = search needs
