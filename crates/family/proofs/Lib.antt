@@ -10,6 +10,7 @@ pub mod After
 pub mod Ranks
 pub mod Lists
 pub mod Foreign
+pub mod Kept
 pub mod Levels
 pub mod Choices
 pub mod Promise

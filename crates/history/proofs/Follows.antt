@@ -2,18 +2,25 @@
 use mathlib.Core.Path.{_≡_, refl, sym, subst}
 use mathlib.Core.Logic.{⊎-elim}
 use mathlib.Core.Bool.{true, false, _&&_, _||_, true≢false}
-use Prim.Native.Nat.{ℕ, _≤_}
+use mathlib.Core.List.{List, List·Memᴰ as In}
+use Prim.Native.Nat.{ℕ, suc, _-_, _≤_, zero-le}
+use native.Mathlib.Nat.{le-refl, le-antisymm}
 use native.Mathlib.Omega.{arith}
 use lib.Dec.{eqb}
 use Rattle.refusal.specs.declared.Outcome.the-variants.{Done}
 use Rattle.refusal.proofs.Rows.{code-one, first-taken, first-passed, first-has}
+use Rattle.geometry.proofs.Permits.{marked-stops}
+use Rattle.family.specs.Levels as Levels
 use Rattle.family.proofs.Checks.{room}
 use Rattle.family.proofs.Costs.{genuine-checked}
+use Rattle.family.proofs.Kept.{family-holds}
+use Rattle.family.proofs.Lists.{in-numbers}
 use Rattle.table.specs.Table.{cell}
 use Rattle.costs.specs.Costs.{Permit}
 use Rattle.costs.specs.Walk.{perm}
 use Rattle.costs.proofs.Perm.{perm-adjacent}
 use Rattle.costs.proofs.Meaning.{permissions, genuine-is}
+use Rattle.readout.specs.Read.{rank}
 use Rattle.readout.proofs.Meaning.{read-chosen, ranks-read}
 use Rattle.trace.specs.declared.Levels.{Levels}
 use Rattle.trace.specs.Numbers.{TraceNumber, StoredSamples, StoredCells}
@@ -22,7 +29,7 @@ use Rattle.history.specs.Run.{State, Call, Answer, Step, answered}
 use Rattle.history.specs.Run.Call.{read}
 use Rattle.history.specs.Run.Answer.{levels}
 use Rattle.history.specs.Run.Step.{starts, puts, asks, reads}
-use Rattle.history.specs.Hold.{Shown, onTrace}
+use Rattle.history.specs.Hold.{Permitted, levelsOf, Shown, MarksKept, MarksRanked, onTrace}
 use Rattle.history.proofs.Sound.{Sound, state-is}
 
 pub sound-shown : {s e : State} {r : Levels} → Sound s → Step s e read (levels r) → answered (levels r) ≡ 0 → Shown e r
@@ -30,32 +37,52 @@ sound-shown {s} {e} {r} S (reads G t) h =
     let d : r .outcome ≡ Done = code-one (r .outcome) Done h in
     let a = s .trace in
     let b = s .lent in
-    let p = read-passed a (b .across) (b .upward) (b .table) (s .ranks) (rw d at (G .number)) in
+    let p = read-passed a (b .samples) (b .table) (s .ranks) (rw d at (G .number)) in
     let W = G .done d in
     let B = ranks-read (b .table) (a .capacity) (a .levels) (a .held) (p .0 .sized .0) (S .few) (omega arith) (omega arith) (p .1 .cells) (s .ranks) (e .ranks) (r .segments) (r .total) W in
     subst (λ (u : State). Shown u r) (sym (state-is t (G .lent) refl)) (record {
       chosen = read-chosen (b .table) (a .capacity) (a .levels) (a .held) (s .ranks) (e .ranks) (r .segments) (r .total) B (omega arith)
-          (Permit (b .across) (b .upward) (a .tolerances)) (perm (b .across) (b .upward) (a .tolerances)) (perm-adjacent (b .across) (b .upward) (a .tolerances))
-          (room (a .levels) (a .held) (S .few) (omega arith)) (permissions (b .across) (b .upward) (a .tolerances) (a .levels) (a .held) (S .across) (S .upward)) (S .costs);
+          (Permit (b .samples) (a .tolerances)) (perm (b .samples) (a .tolerances)) (perm-adjacent (b .samples) (a .tolerances))
+          (room (a .levels) (a .held) (S .few) (omega arith)) (permissions (b .samples) (a .tolerances) (a .levels) (a .held) (S .ranged)) (S .costs);
       level = W .level;
       past = W .past;
       total = W .all;
     })
 
+-- ---- marks
+-- in every family of a state's samples, whatever else holds of the state
+pub family-keeps : (s : State) (L : ℕ → List ℕ) → Levels.Family (Permitted s) (s .trace .levels) 0 (s .trace .held - 1) L → MarksKept s L
+family-keeps s L F q h m = family-holds q (λ ℓ x y a b p. marked-stops m a b p) F zero-le (omega arith)
+
+-- what is in a level of ranks has so high a rank
+in-level : (r : ℕ → ℕ) (ℓ i j x : ℕ) → In x (Levels.levels r i j ℓ) → ℓ ≤ r x
+in-level r ℓ i j x h = unfold Levels.levels in in-numbers r ℓ (suc (j - i)) i x h .2
+
+-- and so by the ranks that are read
+pub sound-marked : {s e : State} {r : Levels} → Sound s → Step s e read (levels r) → answered (levels r) ≡ 0 → MarksRanked e
+sound-marked {s} {e} {r} S (reads G t) h q o m =
+    let d : r .outcome ≡ Done = code-one (r .outcome) Done h in
+    let p = read-passed (s .trace) (s .lent .samples) (s .lent .table) (s .ranks) (rw d at (G .number)) in
+    let k : e .trace ≡ s .trace = t in
+    let one : 1 ≤ e .trace .levels = rw k (p .0 .sized .0) in
+    let most : rank (e .ranks) q ≤ e .trace .levels = rw k (G .done d .best .highest q (rw k at o)) in
+    let all = family-keeps e (levelsOf e) (sound-shown S (reads G t) h .chosen .minimal .family) q o m (e .trace .levels) one (le-refl _) in
+    le-antisymm most (in-level (rank (e .ranks)) (e .trace .levels) 0 (e .trace .held - 1) q all)
+
 -- ---- numbers
 module _ (s : State) (S : Sound s) where
   -- check 5 holds
-  stored-samples : StoredSamples (s .trace) (s .lent .across) (s .lent .upward)
-  stored-samples q h = (S .across .each q h, S .upward .each q h)
+  stored-samples : StoredSamples (s .trace) (s .lent .samples)
+  stored-samples q h = (S .ranged .across .each q h, S .ranged .upward .each q h, S .marks q h)
 
   stored-cells : StoredCells (s .trace) (s .lent .table)
   stored-cells =
       let a = s .trace in
       let b = s .lent in
       let n : a .held ≤ 256 = omega arith in
-      genuine-checked (perm (b .across) (b .upward) (a .tolerances)) (perm-adjacent (b .across) (b .upward) (a .tolerances)) (cell (b .table) (a .capacity)) (a .levels) (a .held)
+      genuine-checked (perm (b .samples) (a .tolerances)) (perm-adjacent (b .samples) (a .tolerances)) (cell (b .table) (a .capacity)) (a .levels) (a .held)
       (room (a .levels) (a .held) (S .few) n)
-      (genuine-is (b .across) (b .upward) (a .tolerances) (a .levels) (a .held) (S .across) (S .upward) (S .few) n (cell (b .table) (a .capacity)) .1 (S .costs))
+      (genuine-is (b .samples) (a .tolerances) (a .levels) (a .held) (S .ranged) (S .few) n (cell (b .table) (a .capacity)) .1 (S .costs))
 
   -- so that of the numbers 1 to 5 only 1 and 3 are left: after a refused start the number is 1, after another it is 3 or a later one
   trace-has : {Lent Stored R : Type 0} {k : ℕ} (Q : ℕ → Type 0) → Q 1 → Q 3 → (R → Q k) → Stored → TraceNumber (s .trace) Lent Stored (λ j. R) k → Q k

@@ -3,13 +3,13 @@ use mathlib.Core.Path.{_≡_, refl, sym, ap, subst, _∙_}
 use mathlib.Core.Bool.{true, true≢false}
 use mathlib.Core.List.{List, [], _∷_}
 use Prim.Native.Nat.{ℕ}
-use lib.IntN.{ℤ, pos}
-use lib.ListN.{length, length-set}
+use lib.ListN.{set, length-set}
 use lib.Seq.{getD-set-other}
 use borrow.Author.Tests.{ne-eqb}
 use Rattle.refusal.specs.Number.{number, code}
 use Rattle.refusal.proofs.Laws.{and-left, and-right}
 use Rattle.refusal.proofs.Rows.{by-outcome, numbered}
+use Rattle.geometry.specs.Samples.{Sample, Samples}
 use Rattle.trace.specs.declared.Trace.{Trace}
 use Rattle.trace.specs.declared.Started.{Started}
 use Rattle.trace.specs.declared.Changed.{Changed}
@@ -23,9 +23,9 @@ use Rattle.history.specs.Run.Call.{start, put, ask, read}
 use Rattle.history.specs.Run.Answer.{started, changed, said, levels}
 use Rattle.history.specs.Run.Step.{starts, puts, asks, reads}
 use Rattle.history.specs.Run.Run.{none, next}
-use Rattle.history.specs.Hold.{CostsHeld, Shown, Touched, MayChange, RefusedLeaves, heldAfter, onTrace, allOnTrace}
+use Rattle.history.specs.Hold.{CostsHeld, Shown, MarksRanked, KeptBut, Touched, MayChange, RefusedLeaves, heldAfter, onTrace, allOnTrace}
 use Rattle.history.proofs.Sound.{Sound, state, state-is, not-put, started-sound, step-sound}
-use Rattle.history.proofs.Follows.{sound-shown, Possible, step-number, bare-number}
+use Rattle.history.proofs.Follows.{sound-shown, sound-marked, Possible, step-number, bare-number}
 
 run-sound : {s e : State} {cs : List Call} {rs : List Answer} → Sound s → Run s cs rs e → Sound e
 run-sound S none = S
@@ -44,6 +44,10 @@ module _ {s e : State} {m N : ℕ} {tols : List ℕ} {cs : List Call} {rs : List
   pub demand-2 : {f : State} {r : Levels} → Run s (start m N tols ∷ cs) rs e → Step e f read (levels r) → answered (levels r) ≡ 0 → Shown f r
   demand-2 R p h = sound-shown (sound R) p h
 
+  -- in which every marked sample has rank m: it is held at every level, as in every family of the samples (`family-keeps`)
+  pub restarts-kept : {f : State} {r : Levels} → Run s (start m N tols ∷ cs) rs e → Step e f read (levels r) → answered (levels r) ≡ 0 → MarksRanked f
+  restarts-kept R p h = sound-marked (sound R) p h
+
   possible : {f : State} {c : Call} {r : Answer} → Run s (start m N tols ∷ cs) rs e → Step e f c r → (k : ℕ) → answered r ≡ k → Possible c k
   possible {c = c} R p k h = subst (Possible c) h (step-number (sound R) p)
 
@@ -58,32 +62,32 @@ module _ {s e : State} {m N : ℕ} {tols : List ℕ} {cs : List Call} {rs : List
   never-2 R p o h = true≢false (rw o at (possible R p 2 h))
 
 -- ---- what a call changes
-put-touched : (s e : State) (v n : ℕ) (x y : ℤ) (r : Changed) → Put (s .trace) (s .lent) v n x y r (e .lent) → e .trace ≡ r .trace → e .ranks ≡ s .ranks → Touched v n s e
-put-touched s e v n x y r P t k = record {
+set-kept : {A : Type 0} {d : A} {v : ℕ} {s e : List A} (x : A) → e ≡ set s v x → KeptBut d v s e
+set-kept {d = d} {v = v} {s = s} x h = record { places = rw h (length-set s v x); others = λ q n. rw h (getD-set-other s v q x d n) }
+
+put-touched : (s e : State) (v n : ℕ) (x : Sample) (r : Changed) → Put (s .trace) (s .lent) v n x r (e .lent) → e .trace ≡ r .trace → e .ranks ≡ s .ranks → Touched v n s e
+put-touched s e v n x r P t k = record {
   setup = rw (t ∙ P .trace) refl;
-  places = (ap length (P .across) ∙ simp length-set, ap length (P .upward) ∙ simp length-set, P .cells .same);
-  across = λ q h. rw (P .across) (getD-set-other (s .lent .across) v q x (pos 0) h);
-  upward = λ q h. rw (P .upward) (getD-set-other (s .lent .upward) v q y (pos 0) h);
+  across = set-kept (x .across) (ap (λ (u : Samples). u .across) (P .samples));
+  upward = set-kept (x .upward) (ap (λ (u : Samples). u .upward) (P .samples));
+  marks = set-kept (x .mark) (ap (λ (u : Samples). u .marks) (P .samples));
+  room = P .cells .same;
   cells = P .cells .other;
   ranks = k;
 }
 
+all-kept : {A : Type 0} {d : A} {v : ℕ} {s : List A} → KeptBut d v s s
+all-kept = record { places = refl; others = λ q n. refl }
+
 not-touched : (s e : State) (v n : ℕ) → e ≡ s → Touched v n s e
-not-touched s e v n z = subst (Touched v n s) (sym z) (record {
-  setup = refl;
-  places = (refl, refl, refl);
-  across = λ q h. refl;
-  upward = λ q h. refl;
-  cells = λ a h. refl;
-  ranks = refl;
-})
+not-touched s e v n z = subst (Touched v n s) (sym z) (record { setup = refl; across = all-kept; upward = all-kept; marks = all-kept; room = refl; cells = λ a h. refl; ranks = refl })
 
 pub step-changes : {s e : State} {c : Call} {r : Answer} → Step s e c r → MayChange c s e
 step-changes (starts G t l k) = (l, k)
-step-changes {s} {e} (puts {v = v} {x = x} {y = y} {r = r} G t k) =
+step-changes {s} {e} (puts {v = v} {x = x} {r = r} G t k) =
     let n = heldWith (s .trace .held) v in
-    by-outcome (r .outcome) (λ d. put-touched s e v n x y r (G .done d) t k) (λ w h. not-touched s e v n (not-put (G .refused w h) t k))
-step-changes (asks G t l k) = state-is l (buffers-is (G .lent .0) (G .lent .1) t) k
+    by-outcome (r .outcome) (λ d. put-touched s e v n x r (G .done d) t k) (λ w h. not-touched s e v n (not-put (G .refused w h) t k))
+step-changes (asks G t l k) = state-is l (buffers-is (G .lent) t) k
 step-changes {s} {e} (reads {r = r} G t) =
     by-outcome (r .outcome) (λ d. record { trace = t; lent = G .lent; places = G .done d .same; ranks = G .done d .other })
     (λ w h. let z : e .ranks ≡ s .ranks = G .refused w h .kept in record { trace = t; lent = G .lent; places = rw z refl; ranks = λ x l. rw z refl })
@@ -92,7 +96,7 @@ step-changes {s} {e} (reads {r = r} G t) =
 pub refused-keeps : {s e : State} {c : Call} {r : Answer} → Step s e c r → (answered r ≡ 0 → ⊥) → RefusedLeaves c s e
 refused-keeps (starts {r = r} G t l k) n = by-outcome (r .outcome) (λ d. absurd (n (ap code d))) (λ w h. (t ∙ G .refused w h, l, k))
 refused-keeps (puts {r = r} G t k) n = by-outcome (r .outcome) (λ d. absurd (n (ap code d))) (λ w h. not-put (G .refused w h) t k)
-refused-keeps (asks G t l k) n = state-is l (buffers-is (G .lent .0) (G .lent .1) t) k
+refused-keeps (asks G t l k) n = state-is l (buffers-is (G .lent) t) k
 refused-keeps (reads {r = r} G t) n = by-outcome (r .outcome) (λ d. absurd (n (ap code d))) (λ w h. state-is t (G .lent) (G .refused w h .kept))
 
 -- only start and put change how many samples are held, and of the puts an addition alone (`held-corrected`, `held-added`)
@@ -106,7 +110,7 @@ step-held (reads G t) = rw t refl
 -- ---- the setup stays that of the last start
 changes-setup : (c : Call) (s e : State) → MayChange c s e → onTrace c ≡ true → e .trace ≡ holding (s .trace) (e .trace .held)
 changes-setup (start m N tols) s e M h = absurd (true≢false (sym h))
-changes-setup (put v x y) s e M h = M .setup
+changes-setup (put v x) s e M h = M .setup
 changes-setup (ask k i j) s e M h = rw M refl
 changes-setup read s e M h = rw (M .trace) refl
 
@@ -128,8 +132,8 @@ refused-later (next p R) n h q o = bare-number (ap (λ (a : Trace). a .levels) (
 -- ---- there is a result: every call has a step from every state, and every list of calls a run
 pub step-some : (s : State) (c : Call) → (r : Answer) × (e : State) × Step s e c r
 step-some s (start m N tols) = let w = start-some m N tols in (started (w .0), state (w .0 .trace) (s .lent) (s .ranks), starts (w .1) refl refl refl)
-step-some s (put v x y) = let w = put-some (s .trace) (s .lent) v x y in (changed (w .0), state (w .0 .trace) (w .1) (s .ranks), puts (w .2) refl refl)
-step-some s (ask k i j) = let w = ask-some (s .trace) (s .lent .across) (s .lent .upward) k i j in (said (w .0), s, asks (w .1) refl refl refl)
+step-some s (put v x) = let w = put-some (s .trace) (s .lent) v x in (changed (w .0), state (w .0 .trace) (w .1) (s .ranks), puts (w .2) refl refl)
+step-some s (ask k i j) = let w = ask-some (s .trace) (s .lent .samples) k i j in (said (w .0), s, asks (w .1) refl refl refl)
 step-some s read = let w = read-some (s .trace) (s .lent) (s .ranks) in (levels (w .0), state (s .trace) (s .lent) (w .1), reads (w .2) refl)
 
 pub run-some : (s : State) (cs : List Call) → (rs : List Answer) × (e : State) × Run s cs rs e
@@ -143,11 +147,11 @@ run-some s (c ∷ cs) =
 pub step-one : {s e f : State} {c : Call} {r q : Answer} → Step s e c r → Step s f c q → (r ≡ q) × (e ≡ f)
 step-one {s} {e} {f} (starts {m = m} {N = N} {tols = tols} {r = r} G t l k) (starts {r = q} H u w z) =
     let o = start-one m N tols r q G H in (ap started o, state-is (t ∙ ap (λ (r : Started). r .trace) o ∙ sym u) (l ∙ sym w) (k ∙ sym z))
-step-one {s} {e} {f} (puts {v = v} {x = x} {y = y} {r = r} G t k) (puts {r = q} H u z) =
-    let o = put-one (s .trace) (s .lent) v x y r q (e .lent) (f .lent) G H in (ap changed (o .0), state-is (t ∙ ap (λ (r : Changed). r .trace) (o .0) ∙ sym u) (o .1) (k ∙ sym z))
+step-one {s} {e} {f} (puts {v = v} {x = x} {r = r} G t k) (puts {r = q} H u z) =
+    let o = put-one (s .trace) (s .lent) v x r q (e .lent) (f .lent) G H in (ap changed (o .0), state-is (t ∙ ap (λ (r : Changed). r .trace) (o .0) ∙ sym u) (o .1) (k ∙ sym z))
 step-one {s} {e} {f} (asks {k = l} {i = i} {j = j} {r = r} G b t k) (asks {r = q} H d u z) =
-    let o = ask-one (s .trace) (s .lent .across) (s .lent .upward) l i j r q (e .lent .across) (f .lent .across) (e .lent .upward) (f .lent .upward) G H in
-    (ap said (o .0), state-is (t ∙ sym u) (buffers-is (o .1) (o .2) (b ∙ sym d)) (k ∙ sym z))
+    let o = ask-one (s .trace) (s .lent .samples) l i j r q (e .lent .samples) (f .lent .samples) G H in
+    (ap said (o .0), state-is (t ∙ sym u) (buffers-is (o .1) (b ∙ sym d)) (k ∙ sym z))
 step-one {s} {e} {f} (reads {r = r} G t) (reads {r = q} H u) =
     let o = read-one (s .trace) (s .lent) (s .ranks) r q (e .lent) (f .lent) (e .ranks) (f .ranks) G H in (ap levels (o .0), state-is (t ∙ sym u) (o .1) (o .2))
 

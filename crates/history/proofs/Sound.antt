@@ -3,13 +3,15 @@ use mathlib.Core.Path.{_≡_, refl, sym, subst, _∙_}
 use mathlib.Core.Logic.{_⊎_, inl, inr, ⊎-elim}
 use mathlib.Core.List.{List}
 use Prim.Native.Nat.{ℕ, _+_, _-_, _≤_, _<_, zero-le}
-use native.Mathlib.Decide.{decLt}
+use native.Mathlib.Decide.{decLt, ℕ-discrete}
 use native.Mathlib.Omega.{arith}
 use lib.IntN.{ℤ}
 use lib.ListN.{length, getD, take, replicate, length-take, List·getD-append, List·getD-eq-default}
-use lib.Seq.{getD-take}
+use lib.Seq.{getD-take, getD-set-same, getD-set-other}
 use Rattle.refusal.proofs.Rows.{by-outcome}
-use Rattle.geometry.specs.Coordinate.{InRange}
+use Rattle.geometry.specs.Coordinate.{InRange, Ranged}
+use Rattle.geometry.specs.Mark.{Mark}
+use Rattle.geometry.specs.Samples.{Sample}
 use Rattle.costs.proofs.Meaning.{put-costs}
 use Rattle.trace.specs.declared.Trace.{Trace}
 use Rattle.trace.specs.declared.Changed.{Changed}
@@ -28,8 +30,8 @@ pub record Sound (s : State) : Type 0 where
   pub few : s .trace .levels ≤ 16
   pub small : s .trace .capacity ≤ 256
   pub held : s .trace .held ≤ s .trace .capacity
-  pub across : InRange (s .lent .across) (s .trace .held)
-  pub upward : InRange (s .lent .upward) (s .trace .held)
+  pub ranged : Ranged (s .lent .samples) (s .trace .held)
+  pub marks : (q : ℕ) → q < s .trace .held → Mark (getD (s .lent .samples .marks) q 0)
   pub costs : CostsHeld s
   pub setup : ((s .trace .levels ≡ 0) × (s .trace .held ≡ 0)) ⊎ (Sized (s .trace .levels) (s .trace .capacity) × Tolerances (s .trace .levels) (s .trace .tolerances))
 
@@ -58,7 +60,7 @@ kept-tolerances {m} {tols} T = record {
   rise = λ l h. rw (kept-at T l (omega arith), kept-at T (l + 1) h) (T .rise l h);
 }
 
--- with no sample held there is no coordinate and no stretch
+-- with no sample held there is no coordinate, no mark and no stretch
 none-held : {xs : List ℤ} → InRange xs 0
 none-held = record { held = zero-le; each = λ k l. absurd (omega arith) }
 
@@ -68,8 +70,8 @@ empty-sound m N tols b ranks p q g = record {
   few = p;
   small = q;
   held = zero-le;
-  across = none-held;
-  upward = none-held;
+  ranged = record { across = none-held; upward = none-held };
+  marks = λ q l. absurd (omega arith);
   costs = λ k i j a d o h. absurd (omega arith);
   setup = ⊎-elim (λ e. inl (e, refl)) inr g;
 }
@@ -83,38 +85,42 @@ started-sound {s} (starts {m = m} {N = N} {tols = tols} {r = r} G t l k) =
     (λ w h. subst Sound (sym (state-is (t ∙ G .refused w h) l k)) (empty-sound 0 0 (replicate 16 0) (s .lent) (s .ranks) zero-le zero-le (inl refl)))
 
 -- ---- put
-put-sound : (s e : State) (v : ℕ) (x y : ℤ) (r : Changed) → Sound s → PutNumber (s .trace) (s .lent .across) (s .lent .upward) (s .lent .table) v x y 0
-    → Put (s .trace) (s .lent) v (heldWith (s .trace .held) v) x y r (e .lent) → e .trace ≡ r .trace → Sound e
-put-sound s e v x y r S h P t =
+put-sound : (s e : State) (v : ℕ) (x : Sample) (r : Changed) → Sound s → PutNumber (s .trace) (s .lent .samples) (s .lent .table) v x 0
+    → Put (s .trace) (s .lent) v (heldWith (s .trace .held) v) x r (e .lent) → e .trace ≡ r .trace → Sound e
+put-sound s e v x r S h P t =
     let a = s .trace in
     let b = s .lent in
-    let p = put-passed a (b .across) (b .upward) (b .table) v x y h in
-    let A = put-able a b v x y h in
+    let p = put-passed a (b .samples) (b .table) v x h in
+    let A = put-able a b v x h in
     let R = A .ready in
     let z = R .sizes in
-    subst Sound (sym (state-is (t ∙ P .trace) (buffers-is (P .across) (P .upward) refl) refl)) (record {
+    let others = held-others (a .held) v (p .3) in
+    subst Sound (sym (state-is (t ∙ P .trace) (buffers-is (P .samples) refl) refl)) (record {
       few = z .1;
       small = z .2;
       held = z .4;
-      across = R .across;
-      upward = R .upward;
-      costs = put-costs (a .capacity) (b .across) (b .upward) (a .tolerances) x y (a .levels) v (a .held) _ (b .table) (e .lent .table) (S .few) (S .small) (S .held) (S .across) (S .upward)
-          (held-others (a .held) v (p .4)) (z .4) (R .across) (R .upward) (put-rewritten A P) (S .costs);
+      ranged = R .ranged;
+      marks = λ q l. elim (ℕ-discrete q v) [
+        | yes e ↦ rw (e, getD-set-same (b .samples .marks) v (x .mark) 0 (omega (arith, R .marks))) (p .2 .2)
+        | no d ↦ rw (getD-set-other (b .samples .marks) v q (x .mark) 0 d) (S .marks q (others q l d))
+      ];
+      costs = put-costs (a .capacity) (b .samples) (a .tolerances) x (a .levels) v (a .held) _ (b .table) (e .lent .table) (S .few) (S .small) (S .held) (S .ranged) others (z .4) (R .ranged)
+          (put-rewritten A P) (S .costs);
       setup = inr (p .0 .sized, p .0 .tolerances);
     })
 
 -- ---- every call
 pub step-sound : {s e : State} {c : Call} {r : Answer} → Sound s → Step s e c r → Sound e
 step-sound {s} S (starts G t l k) = started-sound {s = s} (starts G t l k)
-step-sound {s} {e} S (puts {v = v} {x = x} {y = y} {r = r} G t k) =
-    by-outcome (r .outcome) (λ d. put-sound s e v x y r S (rw d at (G .number)) (G .done d) t) (λ w h. subst Sound (sym (not-put (G .refused w h) t k)) S)
-step-sound S (asks G t l k) = subst Sound (sym (state-is l (buffers-is (G .lent .0) (G .lent .1) t) k)) S
+step-sound {s} {e} S (puts {v = v} {x = x} {r = r} G t k) =
+    by-outcome (r .outcome) (λ d. put-sound s e v x r S (rw d at (G .number)) (G .done d) t) (λ w h. subst Sound (sym (not-put (G .refused w h) t k)) S)
+step-sound S (asks G t l k) = subst Sound (sym (state-is l (buffers-is (G .lent) t) k)) S
 step-sound S (reads G t) = subst Sound (sym (state-is t (G .lent) refl)) (record {
   few = S .few;
   small = S .small;
   held = S .held;
-  across = S .across;
-  upward = S .upward;
+  ranged = S .ranged;
+  marks = S .marks;
   costs = S .costs;
   setup = S .setup;
 })

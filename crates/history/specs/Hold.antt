@@ -1,11 +1,12 @@
 -- What holds of a state, and what a call may change. Assumes nothing.
 use mathlib.Core.Path.{_≡_}
 use mathlib.Core.Bool.{Bool, true, false, _&&_, cond}
-use mathlib.Core.List.{List, [], _∷_}
-use Prim.Native.Nat.{ℕ, _-_, _≤_}
+use mathlib.Core.List.{List, [], _∷_, List·Memᴰ as In}
+use Prim.Native.Nat.{ℕ, _-_, _≤_, _<_}
 use lib.Dec.{eqb}
 use lib.IntN.{pos}
 use lib.ListN.{length, getD}
+use Rattle.geometry.specs.Mark.{Marked}
 use Rattle.family.specs.Levels as Levels
 use Rattle.table.specs.Table.{at, cell}
 use Rattle.costs.specs.Costs.{Permit, Named}
@@ -17,7 +18,7 @@ use Rattle.history.specs.Run.Call.{start, put, ask, read}
 
 -- which stretch is permitted at which level: by the stored samples and the setup's tolerances
 abbrev pub Permitted : State → ℕ → ℕ → ℕ → Type 0
-Permitted s = Permit (s .lent .across) (s .lent .upward) (s .trace .tolerances)
+Permitted s = Permit (s .lent .samples) (s .trace .tolerances)
 
 -- every cell of a stretch i < j < n is its cost
 abbrev pub CostsHeld : State → Type 0
@@ -34,12 +35,26 @@ pub record Shown (s : State) (r : Levels) : Type 0 where
   pub past : (x : ℕ) → s .trace .levels ≤ x → getD (r .segments) x 0 ≡ 0
   pub total : r .total ≡ Levels.size (levelsOf s) (s .trace .levels)
 
--- from s to e at most these may differ: n, the coordinates of sample v, and the cells of stretches with v of n samples
+-- every marked sample is in each of the levels 1 to m of L
+abbrev pub MarksKept : State → (ℕ → List ℕ) → Type 0
+MarksKept s L = (q : ℕ) → q < s .trace .held → Marked (s .lent .samples .marks) q → (ℓ : ℕ) → 1 ≤ ℓ → ℓ ≤ s .trace .levels → In q (L ℓ)
+
+-- and its rank is m
+abbrev pub MarksRanked : State → Type 0
+MarksRanked s = (q : ℕ) → q < s .trace .held → Marked (s .lent .samples .marks) q → rank (s .ranks) q ≡ s .trace .levels
+
+-- a buffer has as many places, and every one but v holds what it held
+pub record KeptBut {A : Type 0} (z : A) (v : ℕ) (s e : List A) : Type 0 where
+  pub places : length e ≡ length s
+  pub others : (q : ℕ) → (q ≡ v → ⊥) → getD e q z ≡ getD s q z
+
+-- from s to e at most these may differ: n, the coordinates and the mark of sample v, and the cells of stretches with v of n samples
 pub record Touched (v n : ℕ) (s e : State) : Type 0 where
   pub setup : e .trace ≡ holding (s .trace) (e .trace .held)
-  pub places : (length (e .lent .across) ≡ length (s .lent .across)) × (length (e .lent .upward) ≡ length (s .lent .upward)) × (length (e .lent .table) ≡ length (s .lent .table))
-  pub across : (q : ℕ) → (q ≡ v → ⊥) → getD (e .lent .across) q (pos 0) ≡ getD (s .lent .across) q (pos 0)
-  pub upward : (q : ℕ) → (q ≡ v → ⊥) → getD (e .lent .upward) q (pos 0) ≡ getD (s .lent .upward) q (pos 0)
+  pub across : KeptBut (pos 0) v (s .lent .samples .across) (e .lent .samples .across)
+  pub upward : KeptBut (pos 0) v (s .lent .samples .upward) (e .lent .samples .upward)
+  pub marks : KeptBut 0 v (s .lent .samples .marks) (e .lent .samples .marks)
+  pub room : length (e .lent .table) ≡ length (s .lent .table)
   pub cells : (a : ℕ) → ((k i j : ℕ) → Named (s .trace .levels) v n k i j → a ≡ at (s .trace .capacity) k i j → ⊥) → getD (e .lent .table) a 0 ≡ getD (s .lent .table) a 0
   pub ranks : e .ranks ≡ s .ranks
 
@@ -53,28 +68,28 @@ pub record Ranked (s e : State) : Type 0 where
 -- what each call may change
 abbrev pub MayChange : Call → State → State → Type 0
 MayChange (start m N tols) s e = (e .lent ≡ s .lent) × (e .ranks ≡ s .ranks)
-MayChange (put v x y) s e = Touched v (heldWith (s .trace .held) v) s e
+MayChange (put v x) s e = Touched v (heldWith (s .trace .held) v) s e
 MayChange (ask k i j) s e = e ≡ s
 MayChange read s e = Ranked s e
 
 -- what a refused call leaves: a refused start the trace that every later call refuses, any other everything as it was
 abbrev pub RefusedLeaves : Call → State → State → Type 0
 RefusedLeaves (start m N tols) s e = (e .trace ≡ noTrace) × (e .lent ≡ s .lent) × (e .ranks ≡ s .ranks)
-RefusedLeaves (put v x y) s e = e ≡ s
+RefusedLeaves (put v x) s e = e ≡ s
 RefusedLeaves (ask k i j) s e = e ≡ s
 RefusedLeaves read s e = e ≡ s
 
 -- how many samples are held after a call that gives the number k, by how many were
 abbrev pub heldAfter : Call → ℕ → ℕ → ℕ
 heldAfter (start m N tols) k n = 0
-heldAfter (put v x y) k n = cond (eqb k 0) (heldWith n v) n
+heldAfter (put v x) k n = cond (eqb k 0) (heldWith n v) n
 heldAfter (ask l i j) k n = n
 heldAfter read k n = n
 
 -- a call on a trace is every one but start
 abbrev pub onTrace : Call → Bool
 onTrace (start m N tols) = false
-onTrace (put v x y) = true
+onTrace (put v x) = true
 onTrace (ask k i j) = true
 onTrace read = true
 

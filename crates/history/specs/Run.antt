@@ -3,8 +3,8 @@
 use mathlib.Core.Path.{_≡_}
 use mathlib.Core.List.{List, [], _∷_}
 use Prim.Native.Nat.{ℕ}
-use lib.IntN.{ℤ}
 use Rattle.refusal.specs.Number.{code}
+use Rattle.geometry.specs.Samples.{Sample}
 use Rattle.trace.specs.declared.Trace.{Trace}
 use Rattle.trace.specs.declared.Started.{Started}
 use Rattle.trace.specs.declared.Changed.{Changed}
@@ -20,7 +20,7 @@ pub record State : Type 0 where
 -- a call with its arguments
 pub data Call : Type 0 where
   start : ℕ → ℕ → List ℕ → Call
-  put : ℕ → ℤ → ℤ → Call
+  put : ℕ → Sample → Call
   ask : ℕ → ℕ → ℕ → Call
   read : Call
 
@@ -40,8 +40,8 @@ answered (levels r) = code (r .outcome)
 -- from the state s the call and its answer lead to the state e; what a call is not lent stays
 pub data Step (s e : State) : Call → Answer → Type 0 where
   starts : {m N : ℕ} {tols : List ℕ} {r : Started} → StartGives m N tols r → e .trace ≡ r .trace → e .lent ≡ s .lent → e .ranks ≡ s .ranks → Step s e (start m N tols) (started r)
-  puts : {v : ℕ} {x y : ℤ} {r : Changed} → PutGives (s .trace) (s .lent) v x y r (e .lent) → e .trace ≡ r .trace → e .ranks ≡ s .ranks → Step s e (put v x y) (changed r)
-  asks : {k i j : ℕ} {r : Asked} → AskGives (s .trace) (s .lent .across) (s .lent .upward) k i j r (e .lent .across) (e .lent .upward)
+  puts : {v : ℕ} {x : Sample} {r : Changed} → PutGives (s .trace) (s .lent) v x r (e .lent) → e .trace ≡ r .trace → e .ranks ≡ s .ranks → Step s e (put v x) (changed r)
+  asks : {k i j : ℕ} {r : Asked} → AskGives (s .trace) (s .lent .samples) k i j r (e .lent .samples)
       → e .lent .table ≡ s .lent .table → e .trace ≡ s .trace → e .ranks ≡ s .ranks → Step s e (ask k i j) (said r)
   reads : {r : Levels} → ReadGives (s .trace) (s .lent) (s .ranks) r (e .lent) (e .ranks) → e .trace ≡ s .trace → Step s e read (levels r)
 

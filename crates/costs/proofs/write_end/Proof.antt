@@ -23,7 +23,7 @@ write-rows-requires c κs =
     let a = s .before .before .before .args in
     let p = s .before .before .before .pre in
     let e : s .starts .result ≡ min (a .j) (a .v + 1) = s .starts .ensures in
-    (omega arith, (p .1 .0 .2, (λ k x u w z o. p .1 .1 k x u w z (⊎-elim (λ y. inl y) (λ y. inr (omega arith)) o), λ x u w. finest-near _ (perm-adjacent (samples (a .xs .now) (a .ys .now) (a .marks .now)) (a .tolerances .now)) _ _ _ _ (c .before .before .finests .ensures x w) u (omega arith))))
+    (omega arith, (p .1 .0 .2, (λ k x u w z o. p .1 .1 k x u w z (⊎-elim (λ y. inl y) (λ y. inr (omega arith)) o), λ x u w. finest-near (perm (samples (a .xs .now) (a .ys .now) (a .marks .now)) (a .tolerances .now)) (perm-adjacent (samples (a .xs .now) (a .ys .now) (a .marks .now)) (a .tolerances .now)) _ _ _ _ (c .before .before .finests .ensures x w) u (omega arith))))
 
 same-length : tie.Need-same-length
 same-length c = search needs

@@ -1,5 +1,5 @@
 -- `trace::Trace::stored_ok` meets its contract. Assumes nothing.
-use mathlib.Core.Path.{sym, _∙_}
+use mathlib.Core.Path.{sym}
 use Rattle.trace.specs.Rows.{storedOk}
 use borrow.Author.Needs.{needs}
 use Rattle.trace.proofs.Trace.stored_ok.Statement.{statement}
@@ -13,7 +13,10 @@ cells-ok-requires c κs = search needs
 
 returns : tie.Need-returns
 unfolding storedOk
-returns c = let d = c .before in rw (c .cells-ok .ensures) (simp (sym (d .before .samples-ok .ensures) ∙ d .if1 .taken))
+returns c =
+    let d = c .before in
+    let h = sym (d .before .samples-ok .ensures) in
+    rw (c .cells-ok .ensures) (simp (h, d .if1 .taken))
 
 returns-2 : tie.Need-returns-2
 unfolding storedOk
