@@ -12,12 +12,13 @@ use lib.Dec.{ltb, eqb}
 use lib.ListN.{length, getD}
 use borrow.Author.Tests.{eqb-true, eqb-false, eq-eqb, ne-eqb, le-leb, lt-leb, ltb-true, ltb-false, not-true, not-false}
 use Rattle.refusal.specs.declared.Outcome.the-variants.{Done}
+use Rattle.refusal.specs.Check.{Decides}
 use Rattle.refusal.proofs.Laws.{and-yes, and-no-left, and-no-right}
 use Rattle.refusal.proofs.Plain.{decided, by-equal}
 use Rattle.record.specs.Record.{word, counter, boot, edition}
 use Rattle.record.specs.Pause.{oldIncrease, difference, bothWithBoot, increase, increaseAt, pauseLineOf}
 use Rattle.record.specs.Restart.{restarted}
-use Rattle.record.specs.Plain.{Adds}
+use Rattle.record.specs.Plain.{Adds, Restarted}
 use Rattle.record.proofs.Pause.{file-good}
 use Rattle.record.proofs.Plain.{good-edition}
 
@@ -73,6 +74,19 @@ module _ (s : List ℕ) (p q : ℕ) where
   pub restarted-old : NotBoth → restarted s p q ≡ ltb (counter s q) (counter s p)
   unfolding restarted
   restarted-old n = simp (without-boot n)
+
+  -- it says whether a restart lies between them
+  pub restarted-decided : Decides (Restarted s p q) (restarted s p q)
+  restarted-decided =
+      kinds
+      (λ e f. record {
+        right = λ t. inl ((e, f), eqb-false _ _ (not-true _ (sym (restarted-boots e f) ∙ t)));
+        wrong = λ t. ⊎-elim (λ b. b .1 (eqb-true _ _ (not-false _ (sym (restarted-boots e f) ∙ t)))) (λ o. o .0 (e, f));
+      })
+      (λ n. record {
+        right = λ t. inr (λ b. ⊎-elim (λ x. x (b .0)) (λ x. x (b .1)) n, ltb-true _ _ (sym (restarted-old n) ∙ t));
+        wrong = λ t. ⊎-elim (λ b. ⊎-elim (λ x. x (b .0 .0)) (λ x. x (b .0 .1)) n) (λ o. omega (arith, o .1, ltb-false (counter s q) (counter s p) (sym (restarted-old n) ∙ t)));
+      })
 
   same-boot : edition s p ≡ 1 → edition s q ≡ 1 → boot s p ≡ boot s q → increase s p q ≡ difference (counter s p) (counter s q)
   unfolding increase

@@ -1,6 +1,7 @@
 pub mod Signed
 pub mod Record
 pub mod Increase
+pub mod Marks
 pub mod Pause
 pub mod Plain
 pub mod Bytes

@@ -1,4 +1,4 @@
--- When a record and a file are refused, and what a record adds to the pause line, in plain words. A statement of refusal says which number k is given. Assumes nothing.
+-- When a record and a file are refused, what a record adds to the pause line and when it comes after a restart, in plain words. A statement of refusal says which number k is given. Assumes nothing.
 use mathlib.Core.Path.{_≡_}
 use mathlib.Core.Logic.{_⊎_}
 use mathlib.Core.List.{List}
@@ -64,3 +64,11 @@ pub record Adds (s : List ℕ) (p q d : ℕ) : Type 0 where
   pub not-lower : (edition s p ≡ 0) ⊎ (edition s q ≡ 0) → counter s p ≤ counter s q → counter s p + d ≡ counter s q
   -- and a lower one: the later counter itself
   pub lower : (edition s p ≡ 0) ⊎ (edition s q ≡ 0) → counter s q < counter s p → d ≡ counter s q
+
+-- both records are of edition 1
+abbrev pub BothWithBoot : List ℕ → ℕ → ℕ → Type 0
+BothWithBoot s p q = (edition s p ≡ 1) × (edition s q ≡ 1)
+
+-- a restart lies between them: of two of edition 1 the boot differs, of any other pair the later counter is lower
+abbrev pub Restarted : List ℕ → ℕ → ℕ → Type 0
+Restarted s p q = (BothWithBoot s p q × (boot s p ≡ boot s q → ⊥)) ⊎ ((BothWithBoot s p q → ⊥) × (counter s q < counter s p))

@@ -5,7 +5,8 @@ ghost use lib.ListN.{length};
 ghost use Rattle.geometry.specs.Coordinate.{coordinateOk};
 ghost use Rattle.record.specs.Record.{signed, signedAt, word, counter, editionOk, spareOk, fieldsOk, recordOutcome, decodeOutcome, decodeOf};
 ghost use Rattle.record.specs.Pause.{fileLengthOk, recordBytes, recordsOutcome, fileOutcome, increase, increaseAt, pauseSum, pauseLineOf};
-ghost use Rattle.record.specs.Restart.{restarted as restartedAt};
+ghost use Rattle.record.specs.Restart.{restarted as restartedAt, markOf};
+use geometry::MARKED;
 use geometry::coordinate_ok;
 use refusal::Outcome;
 use refusal::Refusal;
@@ -266,6 +267,23 @@ fn restarted(s: &[u8], p: usize, q: usize) -> bool
         return word_at(s, p + BOOT) != word_at(s, q + BOOT);
     }
     counter_at(s, q) < counter_at(s, p)
+}
+
+// The mark of record i of a file: 1 where a restart lies before it, 0 elsewhere and where there is no such record.
+pub fn mark_of(file: &[u8], i: usize) -> u8
+    ensures { λ r. ⌜ r ≡ markOf (now (file .entry)) i ⌝ }
+    ensures { λ r. ⌜ now (file .exit) ≡ now (file .entry) ⌝ }
+{
+    if i == 0 {
+        return 0;
+    }
+    if file.len() / RECORD_BYTES <= i {
+        return 0;
+    }
+    if restarted(file, RECORD_BYTES * (i - 1), RECORD_BYTES * i) {
+        return MARKED;
+    }
+    0
 }
 
 // What the record at place q adds after the one at place p: after a restart its counter, else the difference of two
