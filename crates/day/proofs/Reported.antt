@@ -4,7 +4,6 @@ use mathlib.Core.Logic.{inl, inr, ⊎-elim}
 use mathlib.Core.List.{List}
 use Prim.Native.Nat.{ℕ, _*_, _-_, _≤_, _<_, zero-le}
 use native.Mathlib.Omega.{arith}
-use lib.IntN.{ℤ}
 use lib.ListN.{length}
 use Rattle.refusal.specs.declared.Refusal.{Refusal}
 use Rattle.refusal.specs.declared.Outcome.{Outcome}
@@ -12,11 +11,11 @@ use Rattle.refusal.specs.declared.Outcome.the-variants.{Done, Refused}
 use Rattle.refusal.specs.Number.{code}
 use Rattle.refusal.specs.Check.{First}
 use Rattle.refusal.proofs.Rows.{numbered}
+use Rattle.geometry.specs.Samples.{Samples}
 use Rattle.family.specs.Levels.{levels}
 use Rattle.family.proofs.Levels.{ranks-levels}
 use Rattle.readout.specs.Read.{rank}
 use Rattle.record.specs.declared.PauseLine.{PauseLine}
-use Rattle.record.specs.Record.{across, up}
 use Rattle.record.specs.Pause.{pauseLineOf, pauseSum}
 use Rattle.record.specs.Plain.{FileGiven}
 use Rattle.record.proofs.Plain.{file-given}
@@ -33,7 +32,7 @@ use Rattle.text.proofs.Written.{written-as}
 use Rattle.day.specs.Day.{count, tolerances, DayNumber, DayLevels, Reported, refusedLine, levelsText}
 use Rattle.day.specs.Fill.{dayTrace, Filled, AddsAll, heldText}
 use Rattle.day.proofs.Records.{good-given}
-use Rattle.day.proofs.Filled.{past-trace, filled-across, filled-upward, filled-sound}
+use Rattle.day.proofs.Filled.{past-trace, filled-ranged, filled-sound}
 use Rattle.day.proofs.Listed.{chosen-listed}
 use Rattle.day.proofs.Lines.{held-lines}
 
@@ -52,17 +51,17 @@ module _ {s out out′ : List ℕ} {r : ℕ} {why : Refusal} where
       refused-text (inl (g, refusal-some h)) (refusal-some h) W
 
   -- by a put
-  pub reported-full : {c : Changed} {xs ys : List ℤ} {t : List ℕ} → pauseLineOf s .outcome ≡ Done → AddsAll s c xs ys t → c .outcome ≡ Refused why
+  pub reported-full : {c : Changed} {xs : Samples} {t : List ℕ} → pauseLineOf s .outcome ≡ Done → AddsAll s c xs t → c .outcome ≡ Refused why
       → Written out 0 (refusedLine (code (c .outcome))) out′ r → Reported s out out′ r
   reported-full good A h W = refused-text (inr (good-given s good, ⊎-elim inl (λ a. absurd (refusal-some h (a .1))) (A .number))) (refusal-some h) W
 
 -- ---- a day whose records are added, and read
-module _ (s : List ℕ) (good : pauseLineOf s .outcome ≡ Done) {xs ys : List ℤ} {t : List ℕ} (F : Filled s (count s) xs ys t) {bytes bytes′ : List ℕ} {l : Levels}
-    (room : length bytes ≡ 104) (G : ReadGives (dayTrace (count s)) (buffers xs ys t) bytes l (buffers xs ys t) bytes′) where
+module _ (s : List ℕ) (good : pauseLineOf s .outcome ≡ Done) {xs : Samples} {t : List ℕ} (F : Filled s (count s) xs t) {bytes bytes′ : List ℕ} {l : Levels}
+    (room : length bytes ≡ 104) (G : ReadGives (dayTrace (count s)) (buffers xs t) bytes l (buffers xs t) bytes′) where
   read-number : First 9 (count s < 2) (λ k. k ≡ 0) (code (l .outcome))
   read-number =
       past-trace read (count s) (F .room) (omega (arith, F .lent), omega (arith, F .lent), omega (arith, F .room))
-      (step-number {e = state (dayTrace (count s)) (buffers xs ys t) bytes′} (filled-sound s good (count s) F (omega arith) bytes) (reads G refl)) (G .number)
+      (step-number {e = state (dayTrace (count s)) (buffers xs t) bytes′} (filled-sound s good (count s) F (omega arith) bytes) (reads G refl)) (G .number)
 
   fits : 104 < count s → ⊥
   fits h = omega (arith, F .room)
@@ -72,7 +71,7 @@ module _ (s : List ℕ) (good : pauseLineOf s .outcome ≡ Done) {xs ys : List �
   reported-few h W = refused-text (inr (good-given s good, inr (fits, read-number))) (refusal-some h) W
 
   module _ (d : l .outcome ≡ Done) where
-    shown : Shown (state (dayTrace (count s)) (buffers xs ys t) bytes′) l
+    shown : Shown (state (dayTrace (count s)) (buffers xs t) bytes′) l
     shown = sound-shown (filled-sound s good (count s) F (omega arith) bytes) (reads G refl) (ap code d)
 
     given : First 9 (count s < 2) (λ k. k ≡ 0) 0
@@ -86,14 +85,13 @@ module _ (s : List ℕ) (good : pauseLineOf s .outcome ≡ Done) {xs ys : List �
 
     day-levels : DayLevels s L
     day-levels =
-        chosen-listed (λ i. across s (16 * i)) (λ i. up s (16 * i)) xs ys tolerances 3 (count s)
-        (filled-across s good (count s) F (omega arith)) (filled-upward s good (count s) F (omega arith)) (F .across) (F .upward)
+        chosen-listed s xs tolerances 3 (count s) (filled-ranged s good (count s) F (omega arith)) (F .across) (F .upward) (F .marks)
         (omega (arith, some)) (rank bytes′) (G .done d .best .highest) (shown .chosen)
 
-    day-text : heldText xs ys bytes′ (count s) l (pauseSum s (count s)) ≡ levelsText s L
+    day-text : heldText (xs .across) (xs .upward) bytes′ (count s) l (pauseSum s (count s)) ≡ levelsText s L
     unfolding levelsText
     day-text = rw (
-      held-lines s L xs ys bytes′ (count s) (F .across) (F .upward)
+      held-lines s L (xs .across) (xs .upward) bytes′ (count s) (F .across) (F .upward)
           (λ q h. sym (ranks-levels (rank bytes′) 3 0 (count s - 1) q zero-le zero-le (omega arith) (G .done d .best .highest q h))),
       shown .total,
       shown .level 1 (omega arith) (omega arith),
@@ -102,7 +100,7 @@ module _ (s : List ℕ) (good : pauseLineOf s .outcome ≡ Done) {xs ys : List �
     )
 
     -- the text of its levels
-    pub reported-day : {out out′ : List ℕ} {r : ℕ} → Written out 0 (heldText xs ys bytes′ (count s) l (pauseSum s (count s))) out′ r → Reported s out out′ r
+    pub reported-day : {out out′ : List ℕ} {r : ℕ} → Written out 0 (heldText (xs .across) (xs .upward) bytes′ (count s) l (pauseSum s (count s))) out′ r → Reported s out out′ r
     reported-day W = (
       levelsText s L,
       record { number = 0; given = inr (good-given s good, inr (fits, given)); refused = λ n. absurd (n refl); done = λ z. (L, day-levels, refl) },

@@ -6,11 +6,13 @@ use Prim.Native.Nat.{ℕ, zero, suc, _*_, _-_, _/_, _<_}
 use lib.IntN.{ℤ}
 use lib.ListN.{length, replicate}
 use Rattle.refusal.specs.Check.{First}
+use Rattle.geometry.specs.Samples.{Sample, Samples, sample, samples}
 use Rattle.family.specs.Levels.{Chosen, size, ranks}
 use Rattle.costs.specs.Costs.{Permit}
 use Rattle.record.specs.Record.{across, up}
 use Rattle.record.specs.Pause.{pauseSum}
 use Rattle.record.specs.Plain.{FileGiven}
+use Rattle.record.specs.Restart.{markAt}
 use Rattle.text.specs.Text.{decimal, signedDecimal, Written}
 
 -- how many records a file has
@@ -18,16 +20,17 @@ abbrev pub count : List ℕ → ℕ
 count s = length s / 16
 
 -- f 0, f 1, .. up to n of them
-unfoldable pub listed : (ℕ → ℤ) → ℕ → List ℤ
+unfoldable pub listed : {A : Type 0} → (ℕ → A) → ℕ → List A
 listed f zero = []
 listed f (suc n) = listed f n ++ (f n ∷ [])
 
--- the coordinates of its first n records
-abbrev pub acrossOf : List ℕ → ℕ → List ℤ
-acrossOf s = listed (λ i. across s (16 * i))
+-- the sample of its record i: marked where a restart lies before it
+abbrev pub sampleOf : List ℕ → ℕ → Sample
+sampleOf s i = sample (across s (16 * i)) (up s (16 * i)) (markAt s i)
 
-abbrev pub upOf : List ℕ → ℕ → List ℤ
-upOf s = listed (λ i. up s (16 * i))
+-- those of its first n records
+abbrev pub samplesOf : List ℕ → ℕ → Samples
+samplesOf s n = samples (listed (λ i. sampleOf s i .across) n) (listed (λ i. sampleOf s i .upward) n) (listed (λ i. sampleOf s i .mark) n)
 
 -- tolerances 1, 4, 16 at three levels
 abbrev pub tolerances : List ℕ
@@ -75,7 +78,7 @@ levelsText s L = countsLine (count s) ++ sampleLines s L (count s) ++ segmentsLi
 
 -- L is the chosen minimal family of the file's samples
 abbrev pub DayLevels : List ℕ → (ℕ → List ℕ) → Type 0
-DayLevels s L = Chosen (Permit (acrossOf s (count s)) (upOf s (count s)) tolerances) 3 0 (count s - 1) L
+DayLevels s L = Chosen (Permit (samplesOf s (count s)) tolerances) 3 0 (count s - 1) L
 
 -- t is what is printed of the file s: the number alone where it is refused, else the text of its levels
 pub record DayText (s t : List ℕ) : Type 0 where

@@ -5,11 +5,11 @@ ghost use Prim.Native.Nat.{_*_, _≤_, _<_};
 ghost use lib.ListN.{length, getD};
 ghost use Rattle.refusal.specs.declared.Outcome.the-variants.{Done};
 ghost use Rattle.refusal.specs.Number.{code};
-ghost use Rattle.record.specs.Record.{across, up};
+ghost use Rattle.geometry.specs.Samples.{samples};
 ghost use Rattle.record.specs.Pause.{pauseLineOf, pauseSum};
 ghost use Rattle.trace.specs.Calls.{PutGives, buffers};
 ghost use Rattle.text.specs.Text.{Written, decimal};
-ghost use Rattle.day.specs.Day.{count, tolerances as dayTolerances, refusedLine, countsLine, sampleLine, countedLine, pauseText, Reported};
+ghost use Rattle.day.specs.Day.{count, sampleOf, tolerances as dayTolerances, refusedLine, countsLine, sampleLine, countedLine, pauseText, Reported};
 ghost use Rattle.day.specs.Fill.{dayTrace, Lent, AddsAll, heldLines, heldText};
 use refusal::Outcome;
 use trace::Changed;
@@ -49,33 +49,42 @@ fn no_cells() -> [u16; CELLS]
     [0; CELLS]
 }
 
-// Put record i of the file at place i.
+// Put record i of the file at place i, marked where a restart lies before it.
 fn put_record(
     trace: Trace,
     xs: &mut [i16],
     ys: &mut [i16],
+    marks: &mut [u8],
     table: &mut [u16],
     file: &[u8],
     i: usize,
 ) -> Changed
     requires { ⌜ (pauseLineOf (now file) .outcome ≡ Done) × (i < count (now file)) ⌝ }
-    ensures { λ r. ⌜ PutGives trace (buffers (now (xs .entry)) (now (ys .entry)) (now (table .entry))) i (across (now (file .entry)) (16 * i)) (up (now (file .entry)) (16 * i)) r (buffers (now (xs .exit)) (now (ys .exit)) (now (table .exit))) ⌝ }
+    ensures { λ r. ⌜ PutGives trace (buffers (samples (now (xs .entry)) (now (ys .entry)) (now (marks .entry))) (now (table .entry))) i (sampleOf (now (file .entry)) i) r (buffers (samples (now (xs .exit)) (now (ys .exit)) (now (marks .exit))) (now (table .exit))) ⌝ }
     ensures { λ _. ⌜ now (file .exit) ≡ now (file .entry) ⌝ }
 {
     let sample = record::decode(record::record_of(file, i));
-    trace.put(xs, ys, table, i, sample.across, sample.up)
+    let mark = record::mark_of(file, i);
+    trace.put(xs, ys, marks, table, i, sample.across, sample.up, mark)
 }
 
 // Add the records of the file in order, up to the first refused.
-fn add_all(empty: Trace, xs: &mut [i16], ys: &mut [i16], table: &mut [u16], file: &[u8]) -> Changed
-    requires { ⌜ (pauseLineOf (now file) .outcome ≡ Done) × (empty ≡ dayTrace 0) × Lent (now xs) (now ys) (now table) ⌝ }
-    ensures { λ r. ⌜ AddsAll (now (file .entry)) r (now (xs .exit)) (now (ys .exit)) (now (table .exit)) ⌝ }
+fn add_all(
+    empty: Trace,
+    xs: &mut [i16],
+    ys: &mut [i16],
+    marks: &mut [u8],
+    table: &mut [u16],
+    file: &[u8],
+) -> Changed
+    requires { ⌜ (pauseLineOf (now file) .outcome ≡ Done) × (empty ≡ dayTrace 0) × Lent (samples (now xs) (now ys) (now marks)) (now table) ⌝ }
+    ensures { λ r. ⌜ AddsAll (now (file .entry)) r (samples (now (xs .exit)) (now (ys .exit)) (now (marks .exit))) (now (table .exit)) ⌝ }
     ensures { λ _. ⌜ now (file .exit) ≡ now (file .entry) ⌝ }
 {
     let mut trace = empty;
     let mut i = 0;
     while i < file.len() / record::RECORD_BYTES {
-        let added = put_record(trace, xs, ys, table, file, i);
+        let added = put_record(trace, xs, ys, marks, table, file, i);
         let o = added.outcome;
         let Outcome::Done = o else {
             return added;
@@ -206,15 +215,16 @@ fn good_day(file: &[u8], out: &mut [u8], sum: u64) -> usize
 {
     let mut xs = [0i16; CAPACITY];
     let mut ys = [0i16; CAPACITY];
+    let mut marks = [0u8; CAPACITY];
     let mut table = no_cells();
     let mut ranks = [0u8; CAPACITY];
-    let added = add_all(empty(), &mut xs, &mut ys, &mut table, file);
+    let added = add_all(empty(), &mut xs, &mut ys, &mut marks, &mut table, file);
     let o = added.outcome;
     let Outcome::Done = o else {
         return refused_line(out, o);
     };
     let trace = added.trace;
-    let levels = trace.read(&xs, &ys, &table, &mut ranks);
+    let levels = trace.read(&xs, &ys, &marks, &table, &mut ranks);
     let o = levels.outcome;
     let Outcome::Done = o else {
         return refused_line(out, o);

@@ -3,6 +3,7 @@ use mathlib.Core.Path.{_≡_, refl}
 use Prim.Native.Nat.{_-_, _≤_}
 use native.Mathlib.Omega.{arith}
 use borrow.Author.Needs.{needs}
+use Rattle.geometry.specs.Samples.{samples}
 use Rattle.day.specs.Day.{count}
 use Rattle.day.specs.Fill.{dayTrace, Filled}
 use Rattle.day.proofs.Filled.{filled-none, filled-more, all-refused, all-added}
@@ -10,16 +11,16 @@ use Rattle.day.proofs.add_all.Statement.{statement}
 use Rattle.day.proofs.add_all.Tie as tie
 
 abbrev Inv-loop : tie.InvT-loop
-Inv-loop xs₀ ys₀ table₀ file trace₀ i₀ xs ys table trace i = (i ≤ count file) × (trace ≡ dayTrace i) × Filled file i xs ys table
+Inv-loop xs₀ ys₀ marks₀ table₀ file trace₀ i₀ xs ys marks table trace i = (i ≤ count file) × (trace ≡ dayTrace i) × Filled file i (samples xs ys marks) table
 
 abbrev μ-loop : tie.MeasureT-loop
-μ-loop xs₀ ys₀ table₀ file trace₀ i₀ xs ys table trace i = count file - i
+μ-loop xs₀ ys₀ marks₀ table₀ file trace₀ i₀ xs ys marks table trace i = count file - i
 
 loop-holds : tie.Need-loop-holds Inv-loop μ-loop
-loop-holds c = let p = c .before .before .pre in (omega arith, p .1, filled-none _ (p .2))
+loop-holds c = let p = c .before .before .before .pre in (omega arith, p .1, filled-none _ (p .2))
 
 put-record-requires : tie.Need-put-record-requires Inv-loop μ-loop
-put-record-requires c κs = (c .before .before .before .before .before .before .before .pre .0, omega arith)
+put-record-requires c κs = (c .before .before .before .before .before .before .before .before .before .pre .0, omega arith)
 
 enum-told : tie.Need-enum-told Inv-loop μ-loop
 enum-told c = search needs
@@ -36,10 +37,13 @@ same-length-2 c = search needs
 same-length-3 : tie.Need-same-length-3 Inv-loop μ-loop
 same-length-3 c = search needs
 
+same-length-4 : tie.Need-same-length-4 Inv-loop μ-loop
+same-length-4 c = search needs
+
 returns : tie.Need-returns Inv-loop μ-loop
 returns c =
-    let i = c .before .before .before .before .before .before .before .before .before .before .before .loop in
-    (all-refused _ (c .before .before .before .before .before .before .before .before .before .before .before .before .before .before .pre .0) _ (i .inv .2) (omega arith) (rw (i .inv .1) at (c .before .before .before .before .before .before .put-record .ensures .0)) _ (c .enum-told2 .given .1), refl)
+    let i = c .before .before .before .before .before .before .before .before .before .before .before .before .before .before .loop in
+    (all-refused _ (c .before .before .before .before .before .before .before .before .before .before .before .before .before .before .before .before .before .before .pre .0) _ (i .inv .2) (omega arith) (rw (i .inv .1) at (c .before .before .before .before .before .before .before .before .put-record .ensures .0)) _ (c .enum-told2 .given .1), refl)
 
 add-i : tie.Need-add-i Inv-loop μ-loop
 add-i c = omega arith
@@ -49,12 +53,9 @@ loop-less c = omega arith
 
 loop-again : tie.Need-loop-again Inv-loop μ-loop
 loop-again c =
-    let i = c .before .before .before .before .before .before .before .before .before .before .before .before .loop in
-    let m = filled-more _ (c .before .before .before .before .before .before .before .before .before .before .before .before .before .before .before .pre .0) _ (i .inv .2) (omega arith) (rw (i .inv .1) at (c .before .before .before .before .before .before .before .put-record .ensures .0)) (c .before .enum-told .given .1) in
+    let i = c .before .before .before .before .before .before .before .before .before .before .before .before .before .before .before .loop in
+    let m = filled-more _ (c .before .before .before .before .before .before .before .before .before .before .before .before .before .before .before .before .before .before .before .pre .0) _ (i .inv .2) (omega arith) (rw (i .inv .1) at (c .before .before .before .before .before .before .before .before .before .put-record .ensures .0)) (c .before .enum-told .given .1) in
     (omega arith, m .0, m .1)
-
-same-length-4 : tie.Need-same-length-4 Inv-loop μ-loop
-same-length-4 c = search needs
 
 same-length-5 : tie.Need-same-length-5 Inv-loop μ-loop
 same-length-5 c = search needs
@@ -62,10 +63,16 @@ same-length-5 c = search needs
 same-length-6 : tie.Need-same-length-6 Inv-loop μ-loop
 same-length-6 c = search needs
 
+same-length-7 : tie.Need-same-length-7 Inv-loop μ-loop
+same-length-7 c = search needs
+
+same-length-8 : tie.Need-same-length-8 Inv-loop μ-loop
+same-length-8 c = search needs
+
 returns-2 : tie.Need-returns-2 Inv-loop μ-loop
 returns-2 c =
     let i = c .before .loop in
-    let e : i .i ≡ count (c .before .before .before .before .args .file .now) = omega arith in
+    let e : i .i ≡ count (c .before .before .before .before .before .args .file .now) = omega arith in
     (all-added (rw e at (i .inv .1)) (rw e at (i .inv .2)), refl)
 
 pub add-all-spec : {M : Type 1} → statement M
@@ -81,11 +88,13 @@ add-all-spec =
     same-length
     same-length-2
     same-length-3
+    same-length-4
     returns
     add-i
     loop-less
     loop-again
-    same-length-4
     same-length-5
     same-length-6
+    same-length-7
+    same-length-8
     returns-2)

@@ -23,6 +23,9 @@ slice-aggregate-add-all-2 c = search needs
 slice-aggregate-add-all-3 : tie.Need-slice-aggregate-add-all-3
 slice-aggregate-add-all-3 c = search needs
 
+slice-aggregate-add-all-4 : tie.Need-slice-aggregate-add-all-4
+slice-aggregate-add-all-4 c = search needs
+
 add-all-requires : tie.Need-add-all-requires
 add-all-requires c κs = search needs
 
@@ -39,7 +42,8 @@ same-length : tie.Need-same-length
 same-length c = search needs
 
 returns : tie.Need-returns
-returns c = (reported-full (c .before .before .before .before .before .before .before .before .before .before .before .before .before .before .before .before .before .pre .0) (c .before .before .before .before .before .before .before .before .before .add-all .ensures .0) (c .before .before .before .before .enum-told2 .given .1) (c .before .before .refused-line .ensures), refl)
+returns c =
+    (reported-full (c .before .before .before .before .before .before .before .before .before .before .before .before .before .before .before .before .before .before .before .pre .0) (c .before .before .before .before .before .before .before .before .before .before .add-all .ensures .0) (c .before .before .before .before .enum-told2 .given .1) (c .before .before .refused-line .ensures), refl)
 
 slice-aggregate-read : tie.Need-slice-aggregate-read
 slice-aggregate-read c = search needs
@@ -52,6 +56,9 @@ slice-aggregate-read-3 c = search needs
 
 slice-aggregate-read-4 : tie.Need-slice-aggregate-read-4
 slice-aggregate-read-4 c = search needs
+
+slice-aggregate-read-5 : tie.Need-slice-aggregate-read-5
+slice-aggregate-read-5 c = search needs
 
 read-requires : tie.Need-read-requires
 read-requires c κs = search needs
@@ -70,8 +77,8 @@ same-length-2 c = search needs
 
 returns-2 : tie.Need-returns-2
 returns-2 c =
-    let q = c .before .before .before .before .before .before .before .before .before .before .before .before .before .before .before .before .before .before .add-all .ensures .0 .done (c .before .before .before .before .before .before .before .before .before .before .before .before .before .enum-told .given .1) in
-    (reported-few _ (c .before .before .before .before .before .before .before .before .before .before .before .before .before .before .before .before .before .before .before .before .before .before .before .before .before .before .pre .0) (q .1) refl (rw (q .0) at (c .before .before .before .before .before .before .before .read .ensures)) (c .before .before .before .before .enum-told4 .given .1) (c .before .before .refused-line2 .ensures), refl)
+    let q = c .before .before .before .before .before .before .before .before .before .before .before .before .before .before .before .before .before .before .before .before .add-all .ensures .0 .done (c .before .before .before .before .before .before .before .before .before .before .before .before .before .before .enum-told .given .1) in
+    (reported-few _ (c .before .before .before .before .before .before .before .before .before .before .before .before .before .before .before .before .before .before .before .before .before .before .before .before .before .before .before .before .before .pre .0) (q .1) refl (rw (q .0) at (c .before .before .before .before .before .before .before .read .ensures)) (c .before .before .before .before .enum-told4 .given .1) (c .before .before .refused-line2 .ensures), refl)
 
 slice-aggregate-levels-text : tie.Need-slice-aggregate-levels-text
 slice-aggregate-levels-text c = search needs
@@ -84,8 +91,8 @@ slice-aggregate-levels-text-3 c = search needs
 
 levels-text-requires : tie.Need-levels-text-requires
 levels-text-requires c κs =
-    let q = c .before .before .before .before .before .before .before .before .before .before .before .before .before .before .before .before .before .before .add-all .ensures .0 .done (c .before .before .before .before .before .before .before .before .before .before .before .before .before .enum-told .given .1) in
-    let e : c .before .before .before .before .before .before .before .before .before .before .before .before .before .before .before .before .before .before .add-all .result .trace .held ≡ count (c .before .before .before .before .before .before .before .before .before .before .before .before .before .before .before .before .before .before .before .before .before .before .before .before .before .before .args .file .now) = ap (λ (a : Trace). a .held) (q .0) in
+    let q = c .before .before .before .before .before .before .before .before .before .before .before .before .before .before .before .before .before .before .before .before .add-all .ensures .0 .done (c .before .before .before .before .before .before .before .before .before .before .before .before .before .before .enum-told .given .1) in
+    let e : c .before .before .before .before .before .before .before .before .before .before .before .before .before .before .before .before .before .before .before .before .add-all .result .trace .held ≡ count (c .before .before .before .before .before .before .before .before .before .before .before .before .before .before .before .before .before .before .before .before .before .before .before .before .before .before .before .before .before .args .file .now) = ap (λ (a : Trace). a .held) (q .0) in
     let g = c .before .before .before .before .before .before .before .read .ensures .done (c .before .before .before .before .enum-told3 .given .1) .same in
     omega (arith, q .1 .room, q .1 .lent)
 
@@ -94,8 +101,8 @@ same-length-3 c = search needs
 
 returns-3 : tie.Need-returns-3
 returns-3 c =
-    let q = c .before .before .before .before .before .before .before .before .before .before .before .before .before .before .before .before .before .before .before .before .before .add-all .ensures .0 .done (c .before .before .before .before .before .before .before .before .before .before .before .before .before .before .before .before .enum-told .given .1) in
-    let p = c .before .before .before .before .before .before .before .before .before .before .before .before .before .before .before .before .before .before .before .before .before .before .before .before .before .before .before .before .before .pre in
+    let q = c .before .before .before .before .before .before .before .before .before .before .before .before .before .before .before .before .before .before .before .before .before .before .before .add-all .ensures .0 .done (c .before .before .before .before .before .before .before .before .before .before .before .before .before .before .before .before .before .enum-told .given .1) in
+    let p = c .before .before .before .before .before .before .before .before .before .before .before .before .before .before .before .before .before .before .before .before .before .before .before .before .before .before .before .before .before .before .before .before .pre in
     (reported-day _ (p .0) (q .1) refl (rw (q .0) at (c .before .before .before .before .before .before .before .before .before .before .read .ensures)) (c .before .before .before .before .before .before .before .enum-told3 .given .1) (rw (q .0, p .1) at (c .before .before .levels-text .ensures)), refl)
 
 pub good-day-spec : {M : Type 1} → statement M
@@ -107,6 +114,7 @@ good-day-spec =
     slice-aggregate-add-all
     slice-aggregate-add-all-2
     slice-aggregate-add-all-3
+    slice-aggregate-add-all-4
     add-all-requires
     enum-told
     enum-told-2
@@ -117,6 +125,7 @@ good-day-spec =
     slice-aggregate-read-2
     slice-aggregate-read-3
     slice-aggregate-read-4
+    slice-aggregate-read-5
     read-requires
     enum-told-3
     enum-told-4

@@ -2,6 +2,7 @@
 use borrow.Author.Needs.{needs}
 use mathlib.Core.Path.{refl, ap, _∙_}
 use Rattle.record.specs.Record.{decodeOf}
+use Rattle.record.proofs.Marks.{mark-there}
 use Rattle.day.proofs.Records.{good-sample}
 use Rattle.day.proofs.put_record.Statement.{statement}
 use Rattle.day.proofs.put_record.Tie as tie
@@ -11,6 +12,9 @@ record-of-requires c κs = search needs
 
 decode-requires : tie.Need-decode-requires
 decode-requires c κs = search needs
+
+mark-of-requires : tie.Need-mark-of-requires
+mark-of-requires c κs = search needs
 
 put-requires : tie.Need-put-requires
 put-requires c κs = search needs
@@ -24,11 +28,14 @@ same-length-2 c = search needs
 same-length-3 : tie.Need-same-length-3
 same-length-3 c = search needs
 
+same-length-4 : tie.Need-same-length-4
+same-length-4 c = search needs
+
 returns : tie.Need-returns
 returns c =
-    let p = c .before .before .before .before .before .before .before .before .before .before .before .before .before .before .pre in
-    let z = good-sample _ (p .0) _ (p .1) _ (c .before .before .before .before .before .before .before .before .before .before .decode .ensures .0 ∙ ap decodeOf (c .before .before .before .before .before .before .before .before .before .before .before .record-of .ensures .0)) in
-    (rw (z .0, z .1) at (c .before .before .before .before .put .ensures), refl)
+    let p = c .before .before .before .before .before .before .before .before .before .before .before .before .before .before .before .before .before .before .before .pre in
+    let z = good-sample _ (p .0) _ (p .1) _ (c .before .before .before .before .before .before .before .before .before .before .before .before .before .before .decode .ensures .0 ∙ ap decodeOf (c .before .before .before .before .before .before .before .before .before .before .before .before .before .before .before .record-of .ensures .0)) in
+    (rw (z .0, z .1, c .before .before .before .before .before .before .before .before .before .before .before .before .before .mark-of .ensures .0, mark-there _ _ (p .1)) at (c .before .before .before .before .before .before .put .ensures), refl)
 
 pub put-record-spec : {M : Type 1} → statement M
 put-record-spec =
@@ -36,8 +43,10 @@ put-record-spec =
     (tie.spec
     record-of-requires
     decode-requires
+    mark-of-requires
     put-requires
     same-length
     same-length-2
     same-length-3
+    same-length-4
     returns)
