@@ -3,6 +3,7 @@ use mathlib.Core.Path.{refl}
 use Rattle.refusal.specs.Check.{allBelow}
 use Rattle.algebra.specs.Gap.{gap}
 use Rattle.geometry.specs.Coordinate.{coordinateOk, coordinatesOk}
+use Rattle.geometry.specs.Mark.{marked}
 use Rattle.geometry.specs.Shifted.{apart}
 use Rattle.geometry.specs.Test.{cross-sq, reaches, lowest, judged, permits}
 use Rattle.family.specs.Family.{cells, value, below, least, least-by, via, hop, next, along, rank, total, segments}
@@ -17,7 +18,7 @@ abbrev _and_ : {A B : Type 0} → A → B → A × B
 a and b = (a, b)
 
 worked : AllWorked starred
-unfolding coordinatesOk coordinateOk perm permits judged lowest allBelow reaches apart gap cross-sq cells value below least least-by via hop next along rank total segments
+unfolding coordinatesOk coordinateOk marked perm permits judged lowest allBelow reaches apart gap cross-sq cells value below least least-by via hop next along rank total segments
     pauseLineOf fileOutcome fileLengthOk recordsOutcome recordOutcome counter editionOk spareOk fieldsOk word signed signedAt
     oldIncrease difference bothWithBoot increase increaseAt pauseSum
 worked =
@@ -25,7 +26,7 @@ worked =
     (refl, refl) and (refl, refl) and (refl, refl) and (refl, refl) and (refl, refl) and (refl, refl) and (refl, refl) and (refl, refl) and (refl, refl)
     -- ranks and costs
     and (refl, refl, refl, refl) and (refl, refl, refl, refl) and (refl, refl, refl) and (refl, refl, refl)
-    and (refl, refl, refl) and (refl, refl, refl) and (refl, refl, refl) and (refl, refl, refl)
+    and (refl, refl, refl) and (refl, refl, refl) and (refl, refl, refl) and (refl, refl, refl) and (refl, refl, refl)
     -- two samples, one sample, counters
     and tt and refl and refl and tt
 

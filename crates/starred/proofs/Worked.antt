@@ -11,6 +11,7 @@ use Rattle.refusal.specs.Check.{Decides, from-to}
 use Rattle.refusal.proofs.Laws.{and-left, and-right}
 use Rattle.refusal.proofs.Plain.{yes-decides, both-decided, from-to-decided, by-less, by-test}
 use Rattle.geometry.specs.Coordinate.{coordinatesOk}
+use Rattle.geometry.specs.Samples.{Sample}
 use Rattle.geometry.proofs.Coordinate.{in-range}
 use Rattle.geometry.proofs.Permits.{permitted-adjacent}
 use Rattle.family.specs.Family.{cells, rank, segments, total}
@@ -29,11 +30,11 @@ use Rattle.trace.specs.Numbers.{ReadNumber}
 use Rattle.trace.proofs.Numbers.{read-number}
 use Rattle.trace.proofs.Passed.{Passed, PassedTable}
 use Rattle.trace.proofs.Exactly.{read-rows}
-use Rattle.starred.specs.Cases.{Sample, across, upward, PermitOf, listed, Ranked, Case, permitted, not-permitted, serves, ranked, costs, two-samples, one-sample, paused, Holds, All}
+use Rattle.starred.specs.Cases.{buffered, PermitOf, listed, Ranked, Case, permitted, not-permitted, serves, ranked, costs, two-samples, one-sample, paused, Holds, All}
 
 -- the test of a stretch
 abbrev permOf : List Sample → List ℕ → ℕ → ℕ → ℕ → Bool
-permOf s tols = perm (across s) (upward s) tols
+permOf s tols = perm (buffered s) tols
 
 -- there are samples, no more of them and of levels than may be, and the test decides their stretches
 record Fit (s : List Sample) (tols : List ℕ) : Type 0 where
@@ -43,19 +44,21 @@ record Fit (s : List Sample) (tols : List ℕ) : Type 0 where
   decides : (k i j : ℕ) → 1 ≤ k → k ≤ length tols → i < j → j < length s → Decides (PermitOf s tols k i j) (permOf s tols k i j)
 
 abbrev fits : List Sample → List ℕ → Bool
-fits s tols = coordinatesOk (across s) (length s) && (coordinatesOk (upward s) (length s) && (from-to 1 256 (length s) && leb (length tols) 16))
+fits s tols = coordinatesOk (buffered s .across) (length s) && (coordinatesOk (buffered s .upward) (length s) && (from-to 1 256 (length s) && leb (length tols) 16))
 
 fit : (s : List Sample) (tols : List ℕ) → fits s tols ≡ true → Fit s tols
 fit s tols h =
-    let p = and-right (coordinatesOk (across s) (length s)) _ h in
-    let q = and-right (coordinatesOk (upward s) (length s)) _ p in
+    let p = and-right (coordinatesOk (buffered s .across) (length s)) _ h in
+    let q = and-right (coordinatesOk (buffered s .upward) (length s)) _ p in
     let t = both-decided (from-to 1 256 (length s)) (leb (length tols) 16) (from-to-decided 1 256 (length s)) (by-test _ (length tols) 16 (λ u. u) (λ u. u)) .right q in
     record {
       some = t .0 .0;
       small = t .0 .1;
       few = t .1;
-      decides = permissions (across s) (upward s) tols (length tols) (length s) (in-range (omega (arith, length-map s (λ (a : Sample). a .0))) (and-left _ _ h))
-          (in-range (omega (arith, length-map s (λ (a : Sample). a .1))) (and-left _ _ p));
+      decides = permissions (buffered s) tols (length tols) (length s) (record {
+        across = in-range (omega (arith, length-map s (λ (a : Sample). a .across))) (and-left _ _ h);
+        upward = in-range (omega (arith, length-map s (λ (a : Sample). a .upward))) (and-left _ _ p);
+      });
     }
 
 listed-same : (f g : ℕ → ℕ) (d x n : ℕ) → x + d ≡ n → ((y : ℕ) → y < n → f y ≡ g y) → listed f x d ≡ listed g x d
@@ -86,7 +89,7 @@ module _ (s : List Sample) (tols : List ℕ) where
     -- the cells are the costs
     all-costs : Levels.Costs (PermitOf s tols) cell m (length s)
     all-costs =
-        genuine-meant (PermitOf s tols) (permOf s tols) (perm-adjacent (across s) (upward s) tols) m (length s) space (F .decides) cell .0
+        genuine-meant (PermitOf s tols) (permOf s tols) (perm-adjacent (buffered s) tols) m (length s) space (F .decides) cell .0
         (cells-genuine (permOf s tols) m (length s))
 
     -- the ranks are those of the chosen family
@@ -95,7 +98,7 @@ module _ (s : List Sample) (tols : List ℕ) where
         let R = readout cell m (length s) in
         record {
           levels = levels read 0 last;
-          chosen = read-promised (PermitOf s tols) (permOf s tols) (perm-adjacent (across s) (upward s) tols) m (length s) space (F .decides) cell (F .some) all-costs read R;
+          chosen = read-promised (PermitOf s tols) (permOf s tols) (perm-adjacent (buffered s) tols) m (length s) space (F .decides) cell (F .some) all-costs read R;
           rank-is = listed-same _ read (length s) 0 (length s) (omega arith) (λ x o. ranks-levels read m 0 last x zero-le zero-le (omega arith) (R .highest x o)) ∙ h;
           total-is = sym (levels-total read m 0 last zero-le (omega (arith, R .first))) ∙ k;
         }
@@ -130,16 +133,16 @@ two a b tols few =
       some = omega arith;
       small = omega arith;
       few = few;
-      decides = λ k i j u v o h. let e : j ≡ suc i = omega arith in rw (e, perm-adjacent (across s) (upward s) tols k i) (yes-decides permitted-adjacent);
+      decides = λ k i j u v o h. let e : j ≡ suc i = omega arith in rw (e, perm-adjacent (buffered s) tols k i) (yes-decides permitted-adjacent);
     } in
     all-ranks s tols F (length tols ∷ length tols ∷ []) (length tols) (ap₂ (λ (x y : ℕ). x ∷ y ∷ []) (R .first) (R .last)) (two-total (read s tols) (length tols) (omega (arith, R .last)))
 
 -- one sample: row 9 of a read, and what the row of tests gives is that number
 one : Holds (one-sample 9)
-one a xs ys t rank H k =
+one a xs t rank H k =
     let e : a .held ≡ 1 = H .one in
     let s = H .sized in
-    let P : Passed a xs ys = record {
+    let P : Passed a xs = record {
       sized = s;
       tolerances = H .tolerances;
       lent = H .lent .0;
@@ -147,9 +150,9 @@ one a xs ys t rank H k =
       stored = λ q h. let f : q ≡ 0 = omega arith in rw f (H .sample);
     } in
     let Q : PassedTable a t = record { room = H .lent .1; cells = λ ℓ i j u v o h. absurd (omega arith) } in
-    let nine : (n : ℕ) → ReadNumber a xs ys t rank n → n ≡ 9 = λ n h. read-rows a xs ys t rank h .row-9 .1 ((P, Q, omega (arith, H .lent .2)), omega arith) in
-    let r = read-number a xs ys t rank in
-    (nine k, λ g. subst (ReadNumber a xs ys t rank) (nine _ r ∙ sym g) r)
+    let nine : (n : ℕ) → ReadNumber a xs t rank n → n ≡ 9 = λ n h. read-rows a xs t rank h .row-9 .1 ((P, Q, omega (arith, H .lent .2)), omega arith) in
+    let r = read-number a xs t rank in
+    (nine k, λ g. subst (ReadNumber a xs t rank) (nine _ r ∙ sym g) r)
 
 -- what is worked out for a case
 abbrev pub Worked : Case → Type 0
