@@ -5,5 +5,5 @@ use lib.IntN.{ℤ}
 use lib.ListN.{length}
 use Rattle.replay.specs.declared.script.State.{State}
 
-abbrev pub Within : State → List ℤ → List ℤ → List ℕ → List ℕ → Type 0
-Within s xs ys cells ranks = (s .xs ≤ length xs) × (s .ys ≤ length ys) × (s .cells ≤ length cells) × (s .ranks ≤ length ranks)
+abbrev pub Within : State → List ℤ → List ℤ → List ℕ → List ℕ → List ℕ → Type 0
+Within s xs ys marks cells ranks = (s .xs ≤ length xs) × (s .ys ≤ length ys) × (s .marks ≤ length marks) × (s .cells ≤ length cells) × (s .ranks ≤ length ranks)

@@ -79,7 +79,14 @@ fn changed(text: &mut [u8], answer: Changed, crc: u32) -> Told
 }
 
 // ask i j k: f a q.
-fn ask(command: &[u8; 80], trace: Trace, xs: &[i16], ys: &[i16], text: &mut [u8]) -> usize
+fn ask(
+    command: &[u8; 80],
+    trace: Trace,
+    xs: &[i16],
+    ys: &[i16],
+    marks: &[u8],
+    text: &mut [u8],
+) -> usize
     ensures { λ r. ⌜ r ≤ length (now (text .exit)) ⌝ }
 {
     if !command::are_whole(command, 3) {
@@ -88,7 +95,7 @@ fn ask(command: &[u8; 80], trace: Trace, xs: &[i16], ys: &[i16], text: &mut [u8]
     let i = command::count(command, 0);
     let j = command::count(command, 1);
     let k = command::count(command, 2);
-    let answer = trace.ask(xs, ys, k, i, j);
+    let answer = trace.ask(xs, ys, marks, k, i, j);
     match answer {
         Asked::Yes => text::bytes(text, 0, b"0 1 -\n"),
         Asked::No(spoiler) => {
@@ -120,19 +127,20 @@ fn read(
     trace: Trace,
     xs: &[i16],
     ys: &[i16],
+    marks: &[u8],
     cells: &[u16],
     ranks: &mut [u8],
     text: &mut [u8],
 ) -> usize
     ensures { λ r. ⌜ r ≤ length (now (text .exit)) ⌝ }
 {
-    let levels = trace.read(xs, ys, cells, ranks);
+    let levels = trace.read(xs, ys, marks, cells, ranks);
     let segments = levels.segments;
     let o = levels.outcome;
     let at = line::first(text, o);
     let at = line::next(text, at, levels.total as u64);
     let at = line::sixteen(text, at, widened(segments));
-    let crc = digest::of_all(steps, xs, ys, cells, ranks);
+    let crc = digest::of_all(steps, xs, ys, marks, cells, ranks);
     let at = line::next(text, at, crc as u64);
     line::end(text, at)
 }
@@ -162,13 +170,14 @@ fn decode(command: &[u8], text: &mut [u8]) -> usize
     line::end(text, at)
 }
 
-// put v x y
+// put v x y mark
 fn put(
     command: &[u8; 80],
     steps: &[u32; 256],
     trace: Trace,
     xs: &mut [i16],
     ys: &mut [i16],
+    marks: &mut [u8],
     cells: &mut [u16],
     ranks: &[u8],
     text: &mut [u8],
@@ -182,8 +191,9 @@ fn put(
     let v = command::count(command, 0);
     let x = command::coordinate(command, 1);
     let y = command::coordinate(command, 2);
-    let answer = trace.put(xs, ys, cells, v, x, y);
-    let crc = digest::of_all(steps, xs, ys, cells, ranks);
+    let mark = command::mark(command, 3);
+    let answer = trace.put(xs, ys, marks, cells, v, x, y, mark);
+    let crc = digest::of_all(steps, xs, ys, marks, cells, ranks);
     changed(text, answer, crc)
 }
 
@@ -194,6 +204,7 @@ pub(crate) fn carry_out(
     trace: Trace,
     xs: &mut [i16],
     ys: &mut [i16],
+    marks: &mut [u8],
     cells: &mut [u16],
     ranks: &mut [u8],
     text: &mut [u8],
@@ -208,9 +219,9 @@ pub(crate) fn carry_out(
         return start(command, trace, text);
     }
     if operation == 9 {
-        return put(command, steps, trace, xs, ys, cells, ranks, text);
+        return put(command, steps, trace, xs, ys, marks, cells, ranks, text);
     }
-    let end = stay(command, steps, trace, xs, ys, cells, ranks, text);
+    let end = stay(command, steps, trace, xs, ys, marks, cells, ranks, text);
     Told { trace, end }
 }
 
@@ -221,6 +232,7 @@ fn stay(
     trace: Trace,
     xs: &mut [i16],
     ys: &mut [i16],
+    marks: &mut [u8],
     cells: &mut [u16],
     ranks: &mut [u8],
     text: &mut [u8],
@@ -229,13 +241,13 @@ fn stay(
 {
     let operation = command[0];
     if operation == 2 {
-        return poke::poke(command, xs, ys, cells, ranks, text);
+        return poke::poke(command, xs, ys, marks, cells, ranks, text);
     }
     if operation == 6 {
-        return ask(command, trace, xs, ys, text);
+        return ask(command, trace, xs, ys, marks, text);
     }
     if operation == 7 {
-        return read(steps, trace, xs, ys, cells, ranks, text);
+        return read(steps, trace, xs, ys, marks, cells, ranks, text);
     }
     if operation == 8 {
         return decode(command, text);

@@ -49,19 +49,26 @@ pub(crate) fn are_whole(command: &[u8; 80], n: usize) -> bool
     true
 }
 
-// Whether numbers k and k + 1 are of 16 bits.
+// Whether numbers k to k + 2 may be a sample: two of 16 bits and a byte.
 pub(crate) fn is_sample(command: &[u8; 80], k: usize) -> bool
-    requires { ⌜ k < 18 ⌝ }
+    requires { ⌜ k < 17 ⌝ }
 {
-    is_short(bits(command, k)) && is_short(bits(command, k + 1))
+    is_short(bits(command, k)) && is_short(bits(command, k + 1)) && bits(command, k + 2) <= 255
 }
 
-// Number k as a coordinate, and as a count.
+// Number k as a coordinate, as a mark, and as a count.
 pub(crate) fn coordinate(command: &[u8; 80], k: usize) -> i16
     requires { ⌜ k < 19 ⌝ }
 {
     let low = bits(command, k) % 65536;
     record::from_bits(low as u16)
+}
+
+pub(crate) fn mark(command: &[u8; 80], k: usize) -> u8
+    requires { ⌜ k < 19 ⌝ }
+{
+    let low = bits(command, k) % 256;
+    low as u8
 }
 
 pub(crate) fn count(command: &[u8; 80], k: usize) -> usize

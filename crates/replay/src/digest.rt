@@ -41,7 +41,7 @@ fn more_word(steps: &[u32; 256], c: u32, w: u32) -> u32 {
     more(steps, low, w / 256)
 }
 
-// The 16 bits of a coordinate, of a cell, and the 8 of a rank.
+// The 16 bits of a coordinate, of a cell, and the 8 of a rank or a mark.
 fn bits_of(x: i16) -> u32 {
     let m = text::magnitude(x) as u32;
     if x < 0 { 65536 - m } else { m }
@@ -51,8 +51,8 @@ fn wide(cell: u16) -> u32 {
     cell as u32
 }
 
-fn wide_rank(rank: u8) -> u32 {
-    rank as u32
+fn wide_byte(b: u8) -> u32 {
+    b as u32
 }
 
 fn of_coordinates(steps: &[u32; 256], c: u32, s: &[i16]) -> u32 {
@@ -75,26 +75,28 @@ fn of_cells(steps: &[u32; 256], c: u32, s: &[u16]) -> u32 {
     d
 }
 
-fn of_ranks(steps: &[u32; 256], c: u32, s: &[u8]) -> u32 {
+fn of_bytes(steps: &[u32; 256], c: u32, s: &[u8]) -> u32 {
     let mut d = c;
     let mut p = 0;
     while p < s.len() {
-        d = more(steps, d, wide_rank(s[p]));
+        d = more(steps, d, wide_byte(s[p]));
         p += 1;
     }
     d
 }
 
-// The digest of across, up, cells and ranks.
+// The digest of across, up, cells, ranks and marks.
 pub(crate) fn of_all(
     steps: &[u32; 256],
     xs: &[i16],
     ys: &[i16],
+    marks: &[u8],
     cells: &[u16],
     ranks: &[u8],
 ) -> u32 {
     let across = of_coordinates(steps, 0xFFFFFFFF, xs);
     let both = of_coordinates(steps, across, ys);
     let table = of_cells(steps, both, cells);
-    of_ranks(steps, table, ranks) ^ 0xFFFFFFFF
+    let levels = of_bytes(steps, table, ranks);
+    of_bytes(steps, levels, marks) ^ 0xFFFFFFFF
 }

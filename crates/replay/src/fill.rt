@@ -34,18 +34,26 @@ pub(crate) fn cells(s: &mut [u16]) {
     }
 }
 
-// A number of 8 bits and 31, modulo 256.
-fn next_rank(v: u8) -> u8 {
-    let sum = (v as u32 + 31) % 256;
+// A number of 8 bits and a step, modulo 256.
+fn next_byte(v: u8, step: u32) -> u8 {
+    let sum = (v as u32 + step % 256) % 256;
     sum as u8
 }
 
-pub(crate) fn ranks(s: &mut [u8]) {
-    let mut v = 5;
+fn bytes(s: &mut [u8], start: u8, step: u32) {
+    let mut v = start;
     let mut p = 0;
     while p < s.len() {
         s[p] = v;
-        v = next_rank(v);
+        v = next_byte(v, step);
         p += 1;
     }
+}
+
+pub(crate) fn ranks(s: &mut [u8]) {
+    bytes(s, 5, 31);
+}
+
+pub(crate) fn marks(s: &mut [u8]) {
+    bytes(s, 2, 17);
 }

@@ -11,7 +11,8 @@ fn main() {
     let steps = digest::steps();
     let mut xs = [0i16; 320];
     let mut ys = [0i16; 320];
+    let mut marks = [0u8; 320];
     let mut cells = [0u16; 1048576];
     let mut ranks = [0u8; 320];
-    script::run(&steps, &mut xs, &mut ys, &mut cells, &mut ranks);
+    script::run(&steps, &mut xs, &mut ys, &mut marks, &mut cells, &mut ranks);
 }

@@ -1,4 +1,4 @@
-// A value put into a lent buffer: poke w p v, w = 0 across, 1 up, 2 cell, 3 rank.
+// A value put into a lent buffer: poke w p v, w = 0 across, 1 up, 2 cell, 3 rank, 4 mark.
 ghost use Prim.Native.Nat.{_≤_};
 ghost use lib.ListN.{length};
 use crate::command;
@@ -28,8 +28,8 @@ fn cell(s: &mut [u16], p: usize, v: u32) -> bool {
     true
 }
 
-// Whether a rank was.
-fn rank(s: &mut [u8], p: usize, v: u32) -> bool {
+// Whether a rank or a mark was.
+fn byte(s: &mut [u8], p: usize, v: u32) -> bool {
     if s.len() <= p {
         return false;
     }
@@ -45,6 +45,7 @@ fn taken(
     command: &[u8; 80],
     xs: &mut [i16],
     ys: &mut [i16],
+    marks: &mut [u8],
     cells: &mut [u16],
     ranks: &mut [u8],
 ) -> bool {
@@ -64,7 +65,10 @@ fn taken(
         return cell(cells, p, v);
     }
     if w == 3 {
-        return rank(ranks, p, v);
+        return byte(ranks, p, v);
+    }
+    if w == 4 {
+        return byte(marks, p, v);
     }
     false
 }
@@ -74,13 +78,14 @@ pub(crate) fn poke(
     command: &[u8; 80],
     xs: &mut [i16],
     ys: &mut [i16],
+    marks: &mut [u8],
     cells: &mut [u16],
     ranks: &mut [u8],
     text: &mut [u8],
 ) -> usize
     ensures { λ r. ⌜ r ≤ length (now (text .exit)) ⌝ }
 {
-    if taken(command, xs, ys, cells, ranks) {
+    if taken(command, xs, ys, marks, cells, ranks) {
         return 0;
     }
     line::unknown(text)

@@ -16,6 +16,7 @@ struct State {
     trace: Trace,
     xs: usize,
     ys: usize,
+    marks: usize,
     cells: usize,
     ranks: usize,
     end: usize,
@@ -23,7 +24,7 @@ struct State {
 
 // The state before the first command.
 fn fresh() -> State
-    ensures { λ r. ⌜ (r .xs ≤ 0) × (r .ys ≤ 0) × (r .cells ≤ 0) × (r .ranks ≤ 0) ⌝ }
+    ensures { λ r. ⌜ (r .xs ≤ 0) × (r .ys ≤ 0) × (r .marks ≤ 0) × (r .cells ≤ 0) × (r .ranks ≤ 0) ⌝ }
 {
     let trace = Trace {
         levels: 0,
@@ -35,6 +36,7 @@ fn fresh() -> State
         trace,
         xs: 0,
         ys: 0,
+        marks: 0,
         cells: 0,
         ranks: 0,
         end: 0,
@@ -43,30 +45,32 @@ fn fresh() -> State
 
 // The state after a command that is none.
 fn unknown(state: State, text: &mut [u8]) -> State
-    ensures { λ r. ⌜ (r .xs ≡ state .xs) × (r .ys ≡ state .ys) × (r .cells ≡ state .cells) × (r .ranks ≡ state .ranks) × (r .end ≤ length (now (text .exit))) ⌝ }
+    ensures { λ r. ⌜ (r .xs ≡ state .xs) × (r .ys ≡ state .ys) × (r .marks ≡ state .marks) × (r .cells ≡ state .cells) × (r .ranks ≡ state .ranks) × (r .end ≤ length (now (text .exit))) ⌝ }
 {
     let mut next = state;
     next.end = line::unknown(text);
     next
 }
 
-// bufs LX LY LT LR: lend so much of each buffer, and fill it.
+// bufs LX LY LT LR LM: lend so much of each buffer, and fill it.
 fn bufs(
     command: &[u8; 80],
     state: State,
     xs: &mut [i16],
     ys: &mut [i16],
+    marks: &mut [u8],
     cells: &mut [u16],
     ranks: &mut [u8],
     text: &mut [u8],
 ) -> State
-    requires { ⌜ Within state (now xs) (now ys) (now cells) (now ranks) ⌝ }
-    ensures { λ r. ⌜ Within r (now (xs .exit)) (now (ys .exit)) (now (cells .exit)) (now (ranks .exit)) × (r .end ≤ length (now (text .exit))) ⌝ }
+    requires { ⌜ Within state (now xs) (now ys) (now marks) (now cells) (now ranks) ⌝ }
+    ensures { λ r. ⌜ Within r (now (xs .exit)) (now (ys .exit)) (now (marks .exit)) (now (cells .exit)) (now (ranks .exit)) × (r .end ≤ length (now (text .exit))) ⌝ }
 {
     let lx = command::count(command, 0);
     let ly = command::count(command, 1);
     let lt = command::count(command, 2);
     let lr = command::count(command, 3);
+    let lm = command::count(command, 4);
     if xs.len() < lx {
         return unknown(state, text);
     }
@@ -79,15 +83,20 @@ fn bufs(
     if ranks.len() < lr {
         return unknown(state, text);
     }
+    if marks.len() < lm {
+        return unknown(state, text);
+    }
     fill::across(&mut xs[..lx]);
     fill::up(&mut ys[..ly]);
     fill::cells(&mut cells[..lt]);
     fill::ranks(&mut ranks[..lr]);
+    fill::marks(&mut marks[..lm]);
     let trace = state.trace;
     State {
         trace,
         xs: lx,
         ys: ly,
+        marks: lm,
         cells: lt,
         ranks: lr,
         end: 0,
@@ -101,21 +110,23 @@ fn obey(
     state: State,
     xs: &mut [i16],
     ys: &mut [i16],
+    marks: &mut [u8],
     cells: &mut [u16],
     ranks: &mut [u8],
     text: &mut [u8],
 ) -> State
-    requires { ⌜ Within state (now xs) (now ys) (now cells) (now ranks) ⌝ }
-    ensures { λ r. ⌜ Within r (now (xs .exit)) (now (ys .exit)) (now (cells .exit)) (now (ranks .exit)) × (r .end ≤ length (now (text .exit))) ⌝ }
+    requires { ⌜ Within state (now xs) (now ys) (now marks) (now cells) (now ranks) ⌝ }
+    ensures { λ r. ⌜ Within r (now (xs .exit)) (now (ys .exit)) (now (marks .exit)) (now (cells .exit)) (now (ranks .exit)) × (r .end ≤ length (now (text .exit))) ⌝ }
 {
     if !command::is_plain(command) {
         return unknown(state, text);
     }
     if command[0] == 0 {
-        return bufs(command, state, xs, ys, cells, ranks, text);
+        return bufs(command, state, xs, ys, marks, cells, ranks, text);
     }
     let lx = state.xs;
     let ly = state.ys;
+    let lm = state.marks;
     let lt = state.cells;
     let lr = state.ranks;
     let trace = state.trace;
@@ -125,6 +136,7 @@ fn obey(
         trace,
         &mut xs[..lx],
         &mut ys[..ly],
+        &mut marks[..lm],
         &mut cells[..lt],
         &mut ranks[..lr],
         text,
@@ -134,6 +146,7 @@ fn obey(
         trace,
         xs: lx,
         ys: ly,
+        marks: lm,
         cells: lt,
         ranks: lr,
         end: told.end,
@@ -159,14 +172,25 @@ fn turn(
     state: State,
     xs: &mut [i16],
     ys: &mut [i16],
+    marks: &mut [u8],
     cells: &mut [u16],
     ranks: &mut [u8],
 ) -> State
-    requires { ⌜ Within state (now xs) (now ys) (now cells) (now ranks) ⌝ }
-    ensures { λ r. ⌜ Within r (now (xs .exit)) (now (ys .exit)) (now (cells .exit)) (now (ranks .exit)) ⌝ }
+    requires { ⌜ Within state (now xs) (now ys) (now marks) (now cells) (now ranks) ⌝ }
+    ensures { λ r. ⌜ Within r (now (xs .exit)) (now (ys .exit)) (now (marks .exit)) (now (cells .exit)) (now (ranks .exit)) ⌝ }
 {
     let mut text = [0u8; 512];
-    let next = obey(command, steps, state, xs, ys, cells, ranks, &mut text);
+    let next = obey(
+        command,
+        steps,
+        state,
+        xs,
+        ys,
+        marks,
+        cells,
+        ranks,
+        &mut text,
+    );
     let end = next.end;
     io::write_all(STDOUT_FILENO, &text[..end]);
     next
@@ -177,6 +201,7 @@ pub(crate) fn run(
     steps: &[u32; 256],
     xs: &mut [i16],
     ys: &mut [i16],
+    marks: &mut [u8],
     cells: &mut [u16],
     ranks: &mut [u8],
 ) {
@@ -184,7 +209,7 @@ pub(crate) fn run(
     let mut state = fresh();
     let mut turns = u64::MAX;
     while turns > 0 && read_command(&mut command) {
-        state = turn(&command, steps, state, xs, ys, cells, ranks);
+        state = turn(&command, steps, state, xs, ys, marks, cells, ranks);
         turns -= 1;
     }
 }

@@ -16,10 +16,13 @@ slice-aggregate-run-2 : tie.Need-slice-aggregate-run-2
 slice-aggregate-run-2 c = search needs
 
 slice-aggregate-run-3 : tie.Need-slice-aggregate-run-3
-slice-aggregate-run-3 c = sym (length-replicate {0} {A = ℕ} 1048576 0)
+slice-aggregate-run-3 c = search needs
 
 slice-aggregate-run-4 : tie.Need-slice-aggregate-run-4
-slice-aggregate-run-4 c = search needs
+slice-aggregate-run-4 c = sym (length-replicate {0} {A = ℕ} 1048576 0)
+
+slice-aggregate-run-5 : tie.Need-slice-aggregate-run-5
+slice-aggregate-run-5 c = search needs
 
 run-requires : tie.Need-run-requires
 run-requires c κs = search needs
@@ -36,5 +39,6 @@ main-spec =
     slice-aggregate-run-2
     slice-aggregate-run-3
     slice-aggregate-run-4
+    slice-aggregate-run-5
     run-requires
     returns)

@@ -18,6 +18,9 @@ count-requires-3 c κs = search needs
 count-requires-4 : tie.Need-count-requires-4
 count-requires-4 c κs = search needs
 
+count-requires-5 : tie.Need-count-requires-5
+count-requires-5 c κs = search needs
+
 unknown-requires : tie.Need-unknown-requires
 unknown-requires c κs = search needs
 
@@ -53,6 +56,15 @@ same-length-4 c = search needs
 
 returns-4 : tie.Need-returns-4
 returns-4 c = search needs
+
+unknown-requires-5 : tie.Need-unknown-requires-5
+unknown-requires-5 c κs = search needs
+
+same-length-5 : tie.Need-same-length-5
+same-length-5 c = search needs
+
+returns-5 : tie.Need-returns-5
+returns-5 c = search needs
 
 slice-relend-prefix-across : tie.Need-slice-relend-prefix-across
 slice-relend-prefix-across c = search needs
@@ -90,8 +102,14 @@ slice-aggregate-ranks c = sym (length-take-le _ _ (omega arith))
 ranks-requires : tie.Need-ranks-requires
 ranks-requires c κs = search needs
 
-same-length-5 : tie.Need-same-length-5
-same-length-5 c = search needs
+slice-relend-prefix-marks : tie.Need-slice-relend-prefix-marks
+slice-relend-prefix-marks c = search needs
+
+slice-aggregate-marks : tie.Need-slice-aggregate-marks
+slice-aggregate-marks c = sym (length-take-le _ _ (omega arith))
+
+marks-requires : tie.Need-marks-requires
+marks-requires c κs = search needs
 
 same-length-6 : tie.Need-same-length-6
 same-length-6 c = search needs
@@ -102,8 +120,14 @@ same-length-7 c = search needs
 same-length-8 : tie.Need-same-length-8
 same-length-8 c = search needs
 
-returns-5 : tie.Need-returns-5
-returns-5 c = search needs
+same-length-9 : tie.Need-same-length-9
+same-length-9 c = search needs
+
+same-length-10 : tie.Need-same-length-10
+same-length-10 c = search needs
+
+returns-6 : tie.Need-returns-6
+returns-6 c = search needs
 
 pub bufs-spec : {M : Type 1} → statement M
 bufs-spec =
@@ -113,6 +137,7 @@ bufs-spec =
     count-requires-2
     count-requires-3
     count-requires-4
+    count-requires-5
     unknown-requires
     same-length
     returns
@@ -125,6 +150,9 @@ bufs-spec =
     unknown-requires-4
     same-length-4
     returns-4
+    unknown-requires-5
+    same-length-5
+    returns-5
     slice-relend-prefix-across
     slice-aggregate-across
     across-requires
@@ -137,8 +165,12 @@ bufs-spec =
     slice-relend-prefix-ranks
     slice-aggregate-ranks
     ranks-requires
-    same-length-5
+    slice-relend-prefix-marks
+    slice-aggregate-marks
+    marks-requires
     same-length-6
     same-length-7
     same-length-8
-    returns-5)
+    same-length-9
+    same-length-10
+    returns-6)

@@ -39,6 +39,9 @@ same-length-5 c = search needs
 same-length-6 : tie.Need-same-length-6
 same-length-6 c = search needs
 
+same-length-7 : tie.Need-same-length-7
+same-length-7 c = search needs
+
 returns-2 : tie.Need-returns-2
 returns-2 c = search needs
 
@@ -66,11 +69,14 @@ slice-relend-prefix-carry-out-4 c = search needs
 slice-aggregate-carry-out-4 : tie.Need-slice-aggregate-carry-out-4
 slice-aggregate-carry-out-4 c = sym (length-take-le _ _ (omega arith))
 
+slice-relend-prefix-carry-out-5 : tie.Need-slice-relend-prefix-carry-out-5
+slice-relend-prefix-carry-out-5 c = search needs
+
+slice-aggregate-carry-out-5 : tie.Need-slice-aggregate-carry-out-5
+slice-aggregate-carry-out-5 c = sym (length-take-le _ _ (omega arith))
+
 carry-out-requires : tie.Need-carry-out-requires
 carry-out-requires c κs = search needs
-
-same-length-7 : tie.Need-same-length-7
-same-length-7 c = search needs
 
 same-length-8 : tie.Need-same-length-8
 same-length-8 c = search needs
@@ -83,6 +89,12 @@ same-length-10 c = search needs
 
 same-length-11 : tie.Need-same-length-11
 same-length-11 c = search needs
+
+same-length-12 : tie.Need-same-length-12
+same-length-12 c = search needs
+
+same-length-13 : tie.Need-same-length-13
+same-length-13 c = search needs
 
 returns-3 : tie.Need-returns-3
 returns-3 c = search needs
@@ -102,6 +114,7 @@ obey-spec =
     same-length-4
     same-length-5
     same-length-6
+    same-length-7
     returns-2
     slice-relend-prefix-carry-out
     slice-aggregate-carry-out
@@ -111,10 +124,13 @@ obey-spec =
     slice-aggregate-carry-out-3
     slice-relend-prefix-carry-out-4
     slice-aggregate-carry-out-4
+    slice-relend-prefix-carry-out-5
+    slice-aggregate-carry-out-5
     carry-out-requires
-    same-length-7
     same-length-8
     same-length-9
     same-length-10
     same-length-11
+    same-length-12
+    same-length-13
     returns-3)

@@ -7,11 +7,11 @@ use Rattle.replay.proofs.script.run.Statement.{statement}
 use Rattle.replay.proofs.script.run.Tie as tie
 
 abbrev Inv-loop : tie.InvT-loop
-Inv-loop steps xs₀ ys₀ cells₀ ranks₀ command₀ state₀ turns₀ xs ys cells ranks command state turns =
-    (length xs ≡ length xs₀) × (length ys ≡ length ys₀) × (length cells ≡ length cells₀) × (length ranks ≡ length ranks₀) × Within state xs ys cells ranks
+Inv-loop steps xs₀ ys₀ marks₀ cells₀ ranks₀ command₀ state₀ turns₀ xs ys marks cells ranks command state turns =
+    (length xs ≡ length xs₀) × (length ys ≡ length ys₀) × (length marks ≡ length marks₀) × (length cells ≡ length cells₀) × (length ranks ≡ length ranks₀) × Within state xs ys marks cells ranks
 
 abbrev μ-loop : tie.MeasureT-loop
-μ-loop steps xs₀ ys₀ cells₀ ranks₀ command₀ state₀ turns₀ xs ys cells ranks command state turns = turns
+μ-loop steps xs₀ ys₀ marks₀ cells₀ ranks₀ command₀ state₀ turns₀ xs ys marks cells ranks command state turns = turns
 
 fresh-requires : tie.Need-fresh-requires Inv-loop μ-loop
 fresh-requires c κs = search needs
@@ -46,11 +46,11 @@ same-length-3 c = search needs
 same-length-4 : tie.Need-same-length-4 Inv-loop μ-loop
 same-length-4 c = search needs
 
-returns : tie.Need-returns Inv-loop μ-loop
-returns c = search needs
-
 same-length-5 : tie.Need-same-length-5 Inv-loop μ-loop
 same-length-5 c = search needs
+
+returns : tie.Need-returns Inv-loop μ-loop
+returns c = search needs
 
 same-length-6 : tie.Need-same-length-6 Inv-loop μ-loop
 same-length-6 c = search needs
@@ -60,6 +60,12 @@ same-length-7 c = search needs
 
 same-length-8 : tie.Need-same-length-8 Inv-loop μ-loop
 same-length-8 c = search needs
+
+same-length-9 : tie.Need-same-length-9 Inv-loop μ-loop
+same-length-9 c = search needs
+
+same-length-10 : tie.Need-same-length-10 Inv-loop μ-loop
+same-length-10 c = search needs
 
 returns-2 : tie.Need-returns-2 Inv-loop μ-loop
 returns-2 c = search needs
@@ -81,9 +87,11 @@ run-spec =
     same-length-2
     same-length-3
     same-length-4
-    returns
     same-length-5
+    returns
     same-length-6
     same-length-7
     same-length-8
+    same-length-9
+    same-length-10
     returns-2)

@@ -1,9 +1,9 @@
--- `replay::digest::of_ranks` is safe and ends. Assumes nothing.
+-- `replay::digest::of_bytes` is safe and ends. Assumes nothing.
 use Prim.Native.Nat.{_≤_, _-_}
 use lib.ListN.{length}
 use borrow.Author.Needs.{needs}
-use Rattle.replay.proofs.digest.of_ranks.Statement.{statement}
-use Rattle.replay.proofs.digest.of_ranks.Tie as tie
+use Rattle.replay.proofs.digest.of_bytes.Statement.{statement}
+use Rattle.replay.proofs.digest.of_bytes.Tie as tie
 
 abbrev Inv-loop : tie.InvT-loop
 Inv-loop steps c s d₀ p₀ d p = p ≤ length s
@@ -14,11 +14,11 @@ abbrev μ-loop : tie.MeasureT-loop
 loop-holds : tie.Need-loop-holds Inv-loop μ-loop
 loop-holds c = search needs
 
-shared-slice-read-wide-rank : tie.Need-shared-slice-read-wide-rank Inv-loop μ-loop
-shared-slice-read-wide-rank c = search needs
+shared-slice-read-wide-byte : tie.Need-shared-slice-read-wide-byte Inv-loop μ-loop
+shared-slice-read-wide-byte c = search needs
 
-wide-rank-requires : tie.Need-wide-rank-requires Inv-loop μ-loop
-wide-rank-requires c κs = search needs
+wide-byte-requires : tie.Need-wide-byte-requires Inv-loop μ-loop
+wide-byte-requires c κs = search needs
 
 more-requires : tie.Need-more-requires Inv-loop μ-loop
 more-requires c κs = search needs
@@ -35,15 +35,15 @@ loop-again c = search needs
 returns : tie.Need-returns Inv-loop μ-loop
 returns c = search needs
 
-pub of-ranks-spec : {M : Type 1} → statement M
-of-ranks-spec =
+pub of-bytes-spec : {M : Type 1} → statement M
+of-bytes-spec =
     tie.close
     (tie.spec
     Inv-loop
     μ-loop
     loop-holds
-    shared-slice-read-wide-rank
-    wide-rank-requires
+    shared-slice-read-wide-byte
+    wide-byte-requires
     more-requires
     add-p
     loop-less
