@@ -51,14 +51,29 @@ fn rising() -> [u32; 16] {
     [1, 2, 3, 4, 5, 6, 7, 8, 9, 10, 11, 12, 13, 14, 15, 16]
 }
 
-// Add the first n samples of a list of coordinates, across and up in turn.
+// A restart before no sample.
+const NONE: usize = 0;
+
+fn mark_of(i: usize, restart: usize) -> u8 {
+    if i == 0 {
+        return 0;
+    }
+    if i == restart {
+        return Trace::MARKED;
+    }
+    0
+}
+
+// Add the first n samples of a list of coordinates, across and up in turn; one of them, and the first never, comes after a restart.
 fn add_all(
     empty: Trace,
     xs: &mut [i16],
     ys: &mut [i16],
+    marks: &mut [u8],
     table: &mut [u16],
     samples: [i16; 10],
     n: usize,
+    restart: usize,
 ) -> Trace
     requires { ⌜ n ≤ 5 ⌝ }
 {
@@ -67,7 +82,8 @@ fn add_all(
     while i < n {
         let x = samples[2 * i];
         let y = samples[2 * i + 1];
-        let added = trace.put(xs, ys, table, i, x, y);
+        let mark = mark_of(i, restart);
+        let added = trace.put(xs, ys, marks, table, i, x, y, mark);
         trace = added.trace;
         i += 1;
     }
@@ -78,12 +94,22 @@ fn add_all(
 fn past(ax: i16, ay: i16, bx: i16, by: i16, x: i16, y: i16, e: u32) {
     let mut xs = [0i16; 3];
     let mut ys = [0i16; 3];
+    let mut marks = [0u8; 3];
     let mut table = [0u16; 9];
     let started = Trace::start(1, 3, tolerances(e, 0));
     let empty = started.trace;
     let samples = [ax, ay, x, y, bx, by, 0, 0, 0, 0];
-    let trace = add_all(empty, &mut xs, &mut ys, &mut table, samples, 3);
-    let answer = trace.ask(&xs, &ys, 1, 0, 2);
+    let trace = add_all(
+        empty,
+        &mut xs,
+        &mut ys,
+        &mut marks,
+        &mut table,
+        samples,
+        3,
+        NONE,
+    );
+    let answer = trace.ask(&xs, &ys, &marks, 1, 0, 2);
     say_sample(ax, ay);
     say(b" to ");
     say_sample(bx, by);
@@ -125,17 +151,34 @@ fn say_ranks(ranks: &[u8], n: usize)
 }
 
 // The levels of n samples: their ranks and the total of segments.
-fn levels(title: &[u8], samples: [i16; 10], n: usize, m: usize, tolerances: [u32; 16])
+fn levels(
+    title: &[u8],
+    samples: [i16; 10],
+    n: usize,
+    restart: usize,
+    m: usize,
+    tolerances: [u32; 16],
+)
     requires { ⌜ n ≤ 5 ⌝ }
 {
     let mut xs = [0i16; 5];
     let mut ys = [0i16; 5];
+    let mut marks = [0u8; 5];
     let mut table = [0u16; 400];
     let mut ranks = [0u8; 5];
     let started = Trace::start(m, 5, tolerances);
     let empty = started.trace;
-    let trace = add_all(empty, &mut xs, &mut ys, &mut table, samples, n);
-    let read = trace.read(&xs, &ys, &table, &mut ranks);
+    let trace = add_all(
+        empty,
+        &mut xs,
+        &mut ys,
+        &mut marks,
+        &mut table,
+        samples,
+        n,
+        restart,
+    );
+    let read = trace.read(&xs, &ys, &marks, &table, &mut ranks);
     say(title);
     let o = read.outcome;
     let Outcome::Done = o else {
@@ -171,10 +214,20 @@ fn day_tolerances() -> [u32; 16] {
 fn costs() {
     let mut xs = [0i16; 5];
     let mut ys = [0i16; 5];
+    let mut marks = [0u8; 5];
     let mut table = [0u16; 75];
     let started = Trace::start(3, 5, day_tolerances());
     let empty = started.trace;
-    add_all(empty, &mut xs, &mut ys, &mut table, five(), 5);
+    add_all(
+        empty,
+        &mut xs,
+        &mut ys,
+        &mut marks,
+        &mut table,
+        five(),
+        5,
+        NONE,
+    );
     say_cost(&table, 2);
     say_cost(&table, 3);
     say_cost(&table, 1);
@@ -192,10 +245,11 @@ fn starting(title: &[u8], m: usize, capacity: usize, first: u32, second: u32) {
 fn adding(x: i16, y: i16) {
     let mut xs = [0i16; 2];
     let mut ys = [0i16; 2];
+    let mut marks = [0u8; 2];
     let mut table = [0u16; 4];
     let started = Trace::start(1, 2, tolerances(1, 0));
     let empty = started.trace;
-    let added = empty.put(&mut xs, &mut ys, &mut table, 0, x, y);
+    let added = empty.put(&mut xs, &mut ys, &mut marks, &mut table, 0, x, y, 0);
     let o = added.outcome;
     say(b"sample ");
     say_sample(x, y);
@@ -246,19 +300,49 @@ fn stretches() {
 fn families() {
     let turn = [0, 0, 10, 2, 20, 2, 30, 0, 0, 0];
     let corner = [0, 0, 10, 1, 20, 0, 20, 20, 0, 0];
-    levels(b"four samples, one level", turn, 4, 1, tolerances(1, 0));
-    levels(b"four samples, two levels", corner, 4, 2, tolerances(1, 10));
+    levels(
+        b"four samples, one level",
+        turn,
+        4,
+        NONE,
+        1,
+        tolerances(1, 0),
+    );
+    levels(
+        b"four samples, two levels",
+        corner,
+        4,
+        NONE,
+        2,
+        tolerances(1, 10),
+    );
     levels(
         b"five samples, three levels",
         five(),
         5,
+        NONE,
         3,
         day_tolerances(),
     );
-    levels(b"two samples, one level", five(), 2, 1, rising());
-    levels(b"two samples, three levels", five(), 2, 3, rising());
-    levels(b"two samples, sixteen levels", five(), 2, 16, rising());
-    levels(b"one sample, one level", five(), 1, 1, rising());
+    levels(
+        b"a restart before the third, three levels",
+        five(),
+        5,
+        2,
+        3,
+        day_tolerances(),
+    );
+    levels(b"two samples, one level", five(), 2, NONE, 1, rising());
+    levels(b"two samples, three levels", five(), 2, NONE, 3, rising());
+    levels(
+        b"two samples, sixteen levels",
+        five(),
+        2,
+        NONE,
+        16,
+        rising(),
+    );
+    levels(b"one sample, one level", five(), 1, NONE, 1, rising());
 }
 
 fn ranges() {

@@ -64,6 +64,9 @@ impl Trace {
 
     pub const COORDINATE_MOST: i16 = geometry::COORDINATE_MOST;
 
+    // The mark of the first sample of a new boot; that of any other is 0.
+    pub const MARKED: u8 = geometry::MARKED;
+
     pub const TOLERANCE_LEAST: u32 = 1;
 
     pub const TOLERANCE_MOST: u32 = 32768;
