@@ -11,6 +11,8 @@ const MOST_TOLERANCE: u32 = 32_768;
 const FARTHEST: i16 = 16_384;
 const MOST_RECORDS: usize = 4_096;
 const RECORD: usize = 16;
+/// The mark of the first sample after a restart, the highest there is.
+const RESTART: u8 = 1;
 /// The cost of a stretch that is not permitted.
 const NEVER: u16 = u16::MAX;
 
@@ -32,6 +34,7 @@ struct Lent {
     up: Vec<i16>,
     cells: Vec<u16>,
     ranks: Vec<u8>,
+    marks: Vec<u8>,
 }
 
 /// The setup of a trace and the number of samples it holds.
@@ -51,13 +54,13 @@ impl Trace {
         Ok(trace)
     }
 
-    fn put(self, lent: &mut Lent, v: usize, x: i16, y: i16) -> Result<(Trace, usize), Refusal> {
+    fn put(self, lent: &mut Lent, v: usize, x: i16, y: i16, mark: u8) -> Result<(Trace, usize), Refusal> {
         self.check_table(lent, 0)?;
-        ensure(in_range(x) && in_range(y), 6)?;
+        ensure(in_range(x) && in_range(y) && mark <= RESTART, 6)?;
         ensure(v != self.held || self.held < self.capacity, 7)?;
         ensure(v <= self.held, 8)?;
         let after = Trace { held: self.held.max(v + 1), ..self };
-        Ok((after, after.place(lent, v, x, y)))
+        Ok((after, after.place(lent, v, x, y, mark)))
     }
 
     /// The lowest sample that spoils stretch (i, j) at level k, none when it is permitted.
@@ -68,7 +71,7 @@ impl Trace {
         let square = i64::from(self.tolerances[k - 1]).pow(2);
         Ok((i + 1..j).find(|&q| {
             let (apart, unit) = segment.miss(lent.across[q], lent.up[q]);
-            apart > square * unit
+            lent.marks[q] == RESTART || apart > square * unit
         }))
     }
 
@@ -108,10 +111,11 @@ impl Trace {
         }
     }
 
-    /// Puts sample v at (x, y) and writes the cells of all stretches i <= v <= j; gives their number.
-    fn place(&self, lent: &mut Lent, v: usize, x: i16, y: i16) -> usize {
+    /// Puts sample v at (x, y) with its mark and writes the cells of all stretches i <= v <= j; gives their number.
+    fn place(&self, lent: &mut Lent, v: usize, x: i16, y: i16, mark: u8) -> usize {
         lent.across[v] = x;
         lent.up[v] = y;
+        lent.marks[v] = mark;
         (v..self.held).map(|j| self.write_ending(lent, j, j.min(v + 1))).sum()
     }
 
@@ -153,10 +157,12 @@ impl Trace {
     /// Refusals 1 to 5 of a call that uses the samples; `room` is what it asks of its other buffers.
     fn check_samples(&self, lent: &Lent, room: bool) -> Result<(), Refusal> {
         self.check_setup()?;
-        ensure(room && lent.across.len() >= self.capacity && lent.up.len() >= self.capacity, 3)?;
+        let places = lent.across.len().min(lent.up.len()).min(lent.marks.len());
+        ensure(room && places >= self.capacity, 3)?;
         ensure(self.held <= self.capacity, 4)?;
         let mut stored = lent.across[..self.held].iter().chain(&lent.up[..self.held]);
-        ensure(stored.all(|&coordinate| in_range(coordinate)), 5)
+        let mut marks = lent.marks[..self.held].iter();
+        ensure(stored.all(|&coordinate| in_range(coordinate)) && marks.all(|&mark| mark <= RESTART), 5)
     }
 
     /// Refusals 1 to 5 of a call that uses the table and `ranks` bytes of the rank buffer.
@@ -233,7 +239,10 @@ fn finest(lent: &Lent, i: usize, j: usize, tolerances: &[u32]) -> usize {
     let mut squares = tolerances.iter().map(|&tolerance| i64::from(tolerance).pow(2));
     let mut square = squares.next().unwrap_or(0);
     let mut passed = 0;
-    for (&x, &y) in lent.across[i + 1..j].iter().zip(&lent.up[i + 1..j]) {
+    for ((&x, &y), &mark) in lent.across[i + 1..j].iter().zip(&lent.up[i + 1..j]).zip(&lent.marks[i + 1..j]) {
+        if mark == RESTART {
+            return tolerances.len();
+        }
         let (apart, unit) = segment.miss(x, y);
         while apart > square * unit {
             passed += 1;
@@ -269,13 +278,18 @@ fn decode_file(bytes: &[u8]) -> Result<Vec<Record>, Refusal> {
     bytes.chunks_exact(RECORD).map(decode).collect()
 }
 
-/// Between two of edition 1 a new boot counts from zero and the counter may roll over; else a lower counter is a restart.
-fn increase(earlier: &Record, later: &Record) -> u32 {
+/// Between two of edition 1 a new boot is a restart, else a lower counter.
+fn restarted(earlier: &Record, later: &Record) -> bool {
     if earlier.edition == 1 && later.edition == 1 {
-        if earlier.boot == later.boot { later.pause.wrapping_sub(earlier.pause) } else { later.pause }
+        earlier.boot != later.boot
     } else {
-        later.pause.checked_sub(earlier.pause).unwrap_or(later.pause)
+        later.pause < earlier.pause
     }
+}
+
+/// A restart counts from zero; without one the counter may roll over.
+fn increase(earlier: &Record, later: &Record) -> u32 {
+    if restarted(earlier, later) { later.pause } else { later.pause.wrapping_sub(earlier.pause) }
 }
 
 /// The sum of the increases.
@@ -289,10 +303,12 @@ fn day_text(bytes: &[u8]) -> Result<String, Refusal> {
     let mut tolerances = [0; MOST_LEVELS];
     tolerances[..3].copy_from_slice(&[1, 4, 16]);
     let mut trace = Trace::start(3, CAPACITY, tolerances)?;
-    let (samples, cells) = (vec![0; CAPACITY], vec![0; 32_768]);
-    let mut lent = Lent { across: samples.clone(), up: samples, cells, ranks: vec![0; CAPACITY] };
+    let (samples, cells, ranks) = (vec![0; CAPACITY], vec![0; 32_768], vec![0; CAPACITY]);
+    let mut lent = Lent { across: samples.clone(), up: samples, cells, marks: ranks.clone(), ranks };
+    let mut before = None;
     for (v, record) in records.iter().enumerate() {
-        trace = trace.put(&mut lent, v, record.across, record.up)?.0;
+        let mark = before.replace(record).is_some_and(|earlier| restarted(earlier, record));
+        trace = trace.put(&mut lent, v, record.across, record.up, mark.into())?.0;
     }
     let counts = trace.read(&mut lent)?;
     let mut text = format!("samples {} levels {}\n", trace.held, trace.levels);
@@ -331,12 +347,12 @@ fn crc_byte(crc: u32, byte: u8) -> u32 {
     crc >> 8 ^ CRC_TABLE[usize::from(crc as u8 ^ byte)]
 }
 
-/// CRC-32 of all lent parts, across, up, cells and ranks.
+/// CRC-32 of all lent parts, across, up, cells, ranks and marks.
 fn crc_of(lent: &Lent) -> u32 {
     let pair = |crc, bytes: [u8; 2]| crc_byte(crc_byte(crc, bytes[0]), bytes[1]);
     let mut crc = lent.across.iter().chain(&lent.up).fold(!0, |crc, sample| pair(crc, sample.to_le_bytes()));
     crc = lent.cells.iter().fold(crc, |crc, cell| pair(crc, cell.to_le_bytes()));
-    !lent.ranks.iter().fold(crc, |crc, &rank| crc_byte(crc, rank))
+    !lent.ranks.iter().chain(&lent.marks).fold(crc, |crc, &byte| crc_byte(crc, byte))
 }
 
 /// What replay keeps from one command to the next.
@@ -366,7 +382,7 @@ fn answer<T: Default>(result: Result<T, Refusal>) -> (Refusal, T) {
 }
 
 impl Replay {
-    const ROOMS: [usize; 4] = [320, 320, 1_048_576, 320];
+    const ROOMS: [usize; 5] = [320, 320, 1_048_576, 320, 320];
 
     /// Obeys one command; none when it is not a good one.
     fn obey(&mut self, command: &[u8]) -> Option<()> {
@@ -377,7 +393,7 @@ impl Replay {
             *number = i32::from_le_bytes(bytes.try_into().ok()?);
         }
         match operation {
-            0 => self.lend([fit(a[0])?, fit(a[1])?, fit(a[2])?, fit(a[3])?])?,
+            0 => self.lend([fit(a[0])?, fit(a[1])?, fit(a[2])?, fit(a[3])?, fit(a[4])?])?,
             1 => {
                 let (levels, capacity, held) = (fit(a[0])?, fit(a[1])?, fit(a[2])?);
                 self.trace = Trace { levels, capacity, held, tolerances: fit_tolerances(&a[3..19])? };
@@ -391,22 +407,23 @@ impl Replay {
             },
             7 => self.read(),
             8 => self.decode(&rest[..RECORD]),
-            9 => self.put(fit(a[0])?, fit(a[1])?, fit(a[2])?),
+            9 => self.put(fit(a[0])?, fit(a[1])?, fit(a[2])?, fit(a[3])?),
             _ => return None,
         }
         Some(())
     }
 
     /// Lends buffers of these lengths, filled with the known patterns.
-    fn lend(&mut self, lengths: [usize; 4]) -> Option<()> {
+    fn lend(&mut self, lengths: [usize; 5]) -> Option<()> {
         if lengths.iter().zip(Self::ROOMS).any(|(&length, room)| length > room) {
             return None;
         }
-        let Lent { across, up, cells, ranks } = &mut self.lent;
+        let Lent { across, up, cells, ranks, marks } = &mut self.lent;
         refill(across, lengths[0], |p| (p * 7_919 + 13) as i16);
         refill(up, lengths[1], |p| (p * 104_729 + 29) as i16);
         refill(cells, lengths[2], |p| (p * 40_503 + 7) as u16);
         refill(ranks, lengths[3], |p| (p * 31 + 5) as u8);
+        refill(marks, lengths[4], |p| (p * 17 + 2) as u8);
         Some(())
     }
 
@@ -416,6 +433,7 @@ impl Replay {
             1 => *self.lent.up.get_mut(p)? = fit(value)?,
             2 => *self.lent.cells.get_mut(p)? = fit(value)?,
             3 => *self.lent.ranks.get_mut(p)? = fit(value)?,
+            4 => *self.lent.marks.get_mut(p)? = fit(value)?,
             _ => return None,
         }
         Some(())
@@ -431,9 +449,9 @@ impl Replay {
         self.text.push('\n');
     }
 
-    fn put(&mut self, v: usize, x: i16, y: i16) {
-        let (refusal, (after, cells)) =
-            self.trace.put(&mut self.lent, v, x, y).map_or_else(|refusal| (refusal, (self.trace, 0)), |done| (0, done));
+    fn put(&mut self, v: usize, x: i16, y: i16, mark: u8) {
+        let done = self.trace.put(&mut self.lent, v, x, y, mark);
+        let (refusal, (after, cells)) = done.map_or_else(|refusal| (refusal, (self.trace, 0)), |done| (0, done));
         self.trace = after;
         let crc = crc_of(&self.lent);
         put(&mut self.text, format_args!("{refusal} {cells} {} {crc}\n", self.trace.held));

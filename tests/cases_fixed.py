@@ -3,8 +3,8 @@ a fixed choice of the random cases."""
 
 from itertools import combinations, product
 
-from cases_random import (ACROSS, CELL, FAULTS, NEVER_TOGETHER, RANK, TOP, UP, command, day, decode_case, foreign_case,
-                          forged_case, grow, own_case, record, refused_case, sample, wild_case)
+from cases_random import (ACROSS, CELL, FAULTS, MARK, NEVER_TOGETHER, RANK, TOP, UP, command, day, decode_case,
+                          foreign_case, forged_case, grow, marked_sample, own_case, record, refused_case, wild_case)
 from plain import ASK, BUFS, DECODE, NOT_PERMITTED, POKE, PUT, READ, SETUP, START
 
 RISING = tuple(range(1, 17))
@@ -13,13 +13,13 @@ MOST = 2**31 - 1
 
 def every_call(places=(1, 2, 3)):
     """Each call on a trace, with arguments that a trace of two samples takes, and samples at these places."""
-    return *(command(PUT, v, 5 + p, 6) for p, v in enumerate(places)), command(ASK, 0, 1, 1), command(READ)
+    return *(command(PUT, v, 5 + p, 6, p % 2) for p, v in enumerate(places)), command(ASK, 0, 1, 1), command(READ)
 
 
 def starts():
     """Both sides of the bounds of start, the same forged, and calls on what it gives."""
     yield from every_call()
-    yield command(BUFS, 4, 4, 64, 4)
+    yield command(BUFS, 4, 4, 64, 4, 4)
     for m, N in product((0, 1, 16, 17), (1, 2, 4, 256, 257)):
         yield command(START, m, N, *RISING)
         yield from every_call()
@@ -37,9 +37,10 @@ def starts():
 def poked_trace(m, N, n, lends):
     """A forged trace of n samples of which the stored ones, and their cells, are good."""
     yield command(BUFS, *lends)
-    for p in range(min(n, N, lends[ACROSS], lends[UP])):
+    for p in range(min(n, N, lends[ACROSS], lends[UP], lends[MARK])):
         yield command(POKE, ACROSS, p, 10 * p)
         yield command(POKE, UP, p, p % 2)
+        yield command(POKE, MARK, p, p // 2 % 2)
     for k, (i, j) in product(range(1, m + 1), combinations(range(min(n, N)), 2)):
         yield command(POKE, CELL, (k - 1) * N * N + i * N + j, k)
     yield command(SETUP, m, N, n, *RISING)
@@ -47,14 +48,14 @@ def poked_trace(m, N, n, lends):
 
 def lends():
     """Buffers exactly long enough and each one short, for n below, at and above N."""
-    for n, short in product((1, 2, 3, 4), (None, ACROSS, UP, CELL, RANK)):
-        lengths = [3, 3, 18, n]
+    for n, short in product((1, 2, 3, 4), (None, ACROSS, UP, CELL, RANK, MARK)):
+        lengths = [3, 3, 18, n, 3]
         if short is not None:
             lengths[short] -= 1
         yield from poked_trace(2, 3, n, lengths)
         yield from every_call()
     for n in 255, 256, 257, MOST:
-        yield command(BUFS, 256, 256, 65536, 256)
+        yield command(BUFS, 256, 256, 65536, 256, 256)
         yield command(SETUP, 1, 256, n, *RISING)
         yield from every_call(places=(1, n))
 
@@ -63,9 +64,9 @@ def places(rng):
     """A sample put at every place of a trace, at the next and past it, for every count of samples held."""
     m, N = 2, 4
     for n, v in product(range(N + 1), (*range(N + 3), MOST)):
-        yield from grow(rng, "exact", m, N, n)
-        for x, y in (7, 8), (16385, 8), (8, 7):
-            yield from (command(PUT, v, x, y), command(READ))
+        yield from grow(rng, "exact", 0.1, m, N, n)
+        for new in (7, 8, 1), (16385, 8, 0), (8, 7, 2), (8, 7, 0):
+            yield from (command(PUT, v, *new), command(READ))
 
 
 def refusals(rng):
@@ -80,7 +81,7 @@ def refusals(rng):
 def coordinates():
     """Both sides of the bounds of new and of stored coordinates."""
     edges = 16384, 16385, -16384, -16385, 32767, -32768
-    yield command(BUFS, 16, 16, 512, 16)
+    yield command(BUFS, 16, 16, 512, 16, 16)
     yield command(START, 2, 16, *RISING)
     held = 0
     for x, y in [(edge, 0) for edge in edges] + [(0, edge) for edge in edges]:
@@ -93,10 +94,26 @@ def coordinates():
         yield command(POKE, which, place, 0)
 
 
+def mark_edges():
+    """Both sides of the bounds of new marks, also beside a bad coordinate, and of stored ones below n and past it."""
+    yield command(BUFS, 4, 4, 32, 4, 4)
+    yield command(START, 2, 4, *RISING)
+    held = 0
+    for mark in 1, 0, 2, 255, 256, -1:
+        yield command(PUT, held, 16385, 0, mark)
+        yield command(PUT, held, 10 * held, 0, mark)
+        yield command(PUT, 0, 0, 0, mark)
+        held += mark in (0, 1)
+    for place, value in product((0, 1, 2, 3), (0, 1, 2, 17, 255)):
+        yield command(POKE, MARK, place, value)
+        yield from (command(PUT, 1, 10, 0, 2), *every_call(places=(1,)))
+        yield command(POKE, MARK, place, 0)
+
+
 def cell_edges():
     """Every sort of value in every cell of four samples, each followed by a call."""
     m, N, n = 3, 5, 4
-    yield from poked_trace(m, N, n, [N, N, m * N * N, N])
+    yield from poked_trace(m, N, n, [N, N, m * N * N, N, N])
     calls = command(READ), command(PUT, 2, 3, 3), command(ASK, 0, 3, 2), command(READ), command(PUT, 4, 16385, 0)
     turn = 0
     for k, (i, j) in product(range(1, m + 1), combinations(range(n), 2)):
@@ -111,19 +128,21 @@ def cell_edges():
 def unread_places(rng):
     """Values that check 5 would refuse, in places that no call reads."""
     m, N, n = 2, 5, 3
-    yield from grow(rng, "exact", m, N, n)
+    yield from grow(rng, "exact", 0, m, N, n)
     for k, i, j in product(range(1, m + 1), range(N), range(N)):
         if i >= j or j >= n:
             yield command(POKE, CELL, (k - 1) * N * N + i * N + j, rng.choice([0, 999, NOT_PERMITTED, 65534]))
     for which, place in product((ACROSS, UP), range(n, N)):
         yield command(POKE, which, place, rng.choice([32767, -32768, 16385]))
+    for place in range(n, N):
+        yield command(POKE, MARK, place, rng.choice([2, 17, 255]))
     yield from (command(READ), command(ASK, 0, 2, 1), command(PUT, 1, 2, 2), command(PUT, n, 9, 9), command(READ))
 
 
 def dear_below():
     """A stretch that is permitted one level finer, but dearer there than a path over the cells found."""
     N = 5
-    yield command(BUFS, N, N, 3 * N * N, N)
+    yield command(BUFS, N, N, 3 * N * N, N, N)
     yield command(START, 3, N, 1, 5, 16)
     for p in range(4):
         yield command(PUT, p, 10 * p, (0, 4, -4, 4)[p])
@@ -134,57 +153,69 @@ def dear_below():
 def asks(rng):
     """Every stretch and level of a trace, and those just outside it."""
     m, n = 2, 4
-    yield from grow(rng, "exact", m, n + 1, n)
+    yield from grow(rng, "exact", 0, m, n + 1, n)
     for i, j, k in product(range(n + 1), range(n + 1), range(m + 2)):
         yield command(ASK, i, j, k)
 
 
+def in_turn(lists, calls):
+    """A trace of tolerances 1 and 5 that holds each of these lists of ups and marks in turn, by putting only the
+    samples that differ, and these calls after each."""
+    N, held = len(lists[0]), ()
+    yield command(BUFS, N, N, 2 * N * N, N, N)
+    yield command(START, 2, N, 1, 5)
+    for each in lists:
+        yield from (command(PUT, p, 10 * p, *one) for p, one in enumerate(each) if held[p:p + 1] != (one,))
+        yield from calls
+        held = each
+
+
 def spoilers():
-    """Every way for four samples to lie near the line between two ends, off by more than the first tolerance, or by more than both."""
-    yield command(BUFS, 6, 6, 72, 6)
-    yield command(START, 2, 6, 1, 5)
-    up = [0] * 6
-    for p in range(6):
-        yield command(PUT, p, 10 * p, up[p])
-    for heights in product((0, 4, 9), repeat=4):
-        for p, height in enumerate(heights, 1):
-            if up[p] != height:
-                up[p] = height
-                yield command(PUT, p, 10 * p, height)
-        yield from (command(ASK, 0, 5, 1), command(ASK, 0, 5, 2))
+    """Every way for four samples to lie near the line between two ends, off by more than the first tolerance, off by
+    more than both, or on it and marked."""
+    ways = product(((0, 0), (4, 0), (9, 0), (0, 1)), repeat=4)
+    return in_turn([((0, 0), *four, (0, 0)) for four in ways], [command(ASK, 0, 5, 1), command(ASK, 0, 5, 2)])
+
+
+def marks():
+    """Every way to mark four samples, of which the third lies off the line: a read, and every stretch and level."""
+    ways = [tuple(zip((0, 0, 4, 0), four)) for four in product((0, 1), repeat=4)]
+    asked = product(combinations(range(4), 2), (1, 2))
+    return in_turn(ways, [command(READ), *(command(ASK, i, j, k) for (i, j), k in asked)])
 
 
 def question_marks():
     """Commands that cannot be taken, and their nearest that can; the reads show that nothing changed."""
-    yield from poked_trace(2, 3, 2, [3, 3, 18, 3])
+    yield from poked_trace(2, 3, 2, [3, 3, 18, 3, 3])
     yield command(READ)
     for operation in 4, 5, 10, 128, 255:
         yield command(operation)
     yield from (command(4, 3, 3), command(5, 0, 3, 3))  # an addition and a correction, once calls of their own
     for at in 1, 2, 3:
         yield command(READ)[:at] + b"\x01" + command(READ)[at + 1:]
-    for bad in (-1, 3, 18, 3), (3, 321, 18, 3), (3, 3, 1048577, 3), (3, 3, 18, 321), (3, 3, -1, 3), (3, 3, 18, -1):
-        yield command(BUFS, *bad)
-    for bad in (-1, 0, 0), (4, 0, 0), (0, -1, 0), (0, 3, 0), (1, 3, 0), (2, 18, 0), (3, 3, 0):
+    for at, bad in (0, -1), (1, 321), (2, 1048577), (3, 321), (2, -1), (3, -1), (4, 321), (4, -1):
+        yield command(BUFS, *[bad if p == at else length for p, length in enumerate((3, 3, 18, 3, 3))])
+    for bad in (-1, 0, 0), (5, 0, 0), (0, -1, 0), (0, 3, 0), (1, 3, 0), (2, 18, 0), (3, 3, 0), (4, 3, 0):
         yield command(POKE, *bad)
-    for which, low, high in (ACROSS, -32768, 32767), (UP, -32768, 32767), (CELL, 0, 65535), (RANK, 0, 255):
+    signed, byte = (-32768, 32767), (0, 255)
+    for which, (low, high) in enumerate((signed, signed, (0, 65535), byte, byte)):
         for value in low - 1, high + 1, low, high:
             yield command(POKE, which, 2, value)
     for at in 0, 1, 2, 3, 18:
         yield command(SETUP, *[-1 if p == at else 2 for p in range(19)])
     for at in 0, 1, 2, 17:
         yield command(START, *[-1 if p == at else 2 for p in range(18)])
-    for bad in (32768, 0), (-32769, 0), (0, 32768), (0, -32769):
+    for bad in (32768, 0, 0), (-32769, 0, 0), (0, 32768, 0), (0, -32769, 0), (0, 0, 256), (0, 0, -1):
         yield command(PUT, 2, *bad)
         yield command(PUT, 0, *bad)
     for bad in (-1, 1, 1), (0, -1, 1), (0, 1, -1):
         yield command(ASK, *bad)
-    yield command(PUT, -1, 0, 0)
+    yield command(PUT, -1, 0, 0, 0)
     yield command(READ, *[-1] * 19)
     yield command(ASK, 0, 1, 1, *[-1] * 16)
-    yield command(PUT, 0, 4, 4, *[-1] * 16)
-    yield command(PUT, 2, 3, 3, *[-1] * 16)
-    yield command(BUFS, 4, 4, 18, 4, -1)
+    yield command(PUT, 0, 4, 4, 1, *[-1] * 15)
+    yield command(PUT, 2, 3, 3, 0, *[-1] * 15)
+    yield command(BUFS, 4, 4, 18, 4, 4, -1)
     yield command(START, 2, 3, *RISING, -1)
     yield command(PUT, 0, 1, 1)
 
@@ -207,21 +238,21 @@ def decodes(rng):
 
 def full_size(rng):
     """The largest trace: 256 samples, 16 levels."""
-    yield command(BUFS, 320, 320, 1048576, 320)
+    yield command(BUFS, 320, 320, 1048576, 320, 320)
     yield command(START, 16, 256, *RISING[:15], 40)
     for p in range(256):
-        yield command(PUT, p, *sample(rng, "saw" if p < 128 else "noisy", p))
+        yield command(PUT, p, *marked_sample(rng, "saw" if p < 128 else "noisy", 0.02, p))
     yield from (command(READ), command(PUT, 256, 0, 0), command(PUT, 257, 0, 0))
     yield from (command(ASK, 0, 255, 16), command(ASK, 3, 9, 16))
     for v in 255, 250, 128:
-        yield command(PUT, v, *sample(rng, "saw", v + 1))
+        yield command(PUT, v, *marked_sample(rng, "saw", 0.5, v + 1))
     yield command(READ)
 
 
 def replay_script(rng):
     """The whole standard input of replay; its last command is cut short."""
-    parts = [starts(), lends(), places(rng), refusals(rng), coordinates(), cell_edges(), unread_places(rng),
-             dear_below(), asks(rng), spoilers(), question_marks(), decodes(rng)]
+    parts = [starts(), lends(), places(rng), refusals(rng), coordinates(), mark_edges(), cell_edges(),
+             unread_places(rng), dear_below(), asks(rng), spoilers(), marks(), question_marks(), decodes(rng)]
     parts += [own_case(rng, 7, 3) for _ in range(70)]
     parts += [own_case(rng, 4, 16) for _ in range(6)]
     parts += [own_case(rng, 30, 5) for _ in range(10)]
@@ -234,6 +265,19 @@ def counters(*told):
     """A day of these pause counters: one in a pair with its boot number is of edition 1, one alone of edition 0."""
     fields = [(one[1], 0, one[0], 1) if isinstance(one, tuple) else (one,) for one in told]
     return b"".join(record(p, -p, *each) for p, each in enumerate(fields))
+
+
+def restarts():
+    """Days on one straight line, where only a mark keeps a sample: restarts early, late, in a row, and none."""
+    yield from (counters((7, 5), (7, 6), (7, 7)), counters((7, TOP), (7, 4), (7, 9)), counters((7, 9), (7, 5), (7, 5)))
+    yield from (counters((1, 5), (2, 9), (2, 9), (2, 9)), counters((1, 5), (1, 5), (2, 9), (2, 9)))
+    yield from (counters((1, 5), (1, 5), (1, 5), (2, 9)), counters((1, 5), (2, 0), (2, 3), (2, 4), (3, 0)))
+    yield from (counters((1, 5), (2, 5), (3, 5), (4, 5), (4, 5)), counters((1, 5), (2, 5), (1, 5), (2, 5), (1, 5)))
+    yield from (counters(9, 5, 5), counters(9, 9, 5), counters(9, 8, 7, 6, 5), counters(5, 6, 6, 7, 8))
+    # two boots with edition 0 between them: no pair of edition 1, so only a lower counter is a restart
+    yield from (counters((1, 5), 5, (2, 5), (2, 5)), counters((1, 5), 4, (2, 4), (2, 4)))
+    yield counters((1, 5), 5, (2, 4), (2, 4))
+    yield from (counters(*[(p // long, p) for p in range(104)]) for long in (1, 9))
 
 
 def fixed_days(rng):
@@ -255,10 +299,12 @@ def fixed_days(rng):
     # restarts that overtake or do not, roll-overs, boot numbers that differ in one byte, mixed editions
     yield from (counters((1, 500), (2, 900)), counters((1, 900), (2, 120)), counters((1, 500), (1, 900), (2, 1000)))
     yield from (counters((7, TOP - 9), (7, 4)), counters((0, 900), (0, 120)), counters((9, TOP), (9, 0), (9, TOP)))
-    yield from (counters((1, 5), (257, 9)), counters((256, 5), (257, 9)), counters((65535, 5), (0, 9), (65535, 9)))
+    yield from (counters((1, 5), (257, 9), (257, 9)), counters((256, 5), (257, 9), (257, 9)))
+    yield counters((65535, 5), (0, 9), (65535, 9))
     nexts = 900, 120, (0, 900), (0, 120), (2, 900), (2, 120)
-    yield from (counters(*pair) for pair in product((500, (0, 500), (1, 500)), nexts))
+    yield from (counters(*pair, pair[1]) for pair in product((500, (0, 500), (1, 500)), nexts))
     yield counters((1, 500), 900, (2, 950), (2, 10), 20, 15, (2, TOP), (2, 3), (3, 4), 4)
+    yield from restarts()
     yield b"".join(record(3 * p, p % 3, p, p) for p in range(17))
     for count in range(2, 105):
         yield day(rng, count)

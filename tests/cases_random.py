@@ -5,7 +5,7 @@ from itertools import combinations, product
 
 from plain import ASK, BUFS, DECODE, NOT_PERMITTED, POKE, PUT, READ, SETUP, START
 
-ACROSS, UP, CELL, RANK = range(4)
+ACROSS, UP, CELL, RANK, MARK = range(5)
 FAULTS = {  # the refusals that can arise in each call
     START: (1, 2),
     PUT: (1, 2, 3, 4, 5, 6, 7, 8),
@@ -15,9 +15,11 @@ FAULTS = {  # the refusals that can arise in each call
 NEVER_TOGETHER = {(4, 7), (4, 9), (7, 8)}
 TASTES = "none", "least", "most", "any"
 KINDS = "equal", "back", "extreme", "line", "exact", "flat", "saw", "noisy"
+OFTEN = 0, 0, 0.1, 0.5  # how many of a trace's samples are marked, or of a day's records follow a restart
 
 
 def command(operation, *numbers):
+    """One command; numbers left out are 0, a put's mark too."""
     return struct.pack("<B3x19i", operation, *numbers, *[0] * (19 - len(numbers)))
 
 
@@ -44,6 +46,11 @@ def sample(rng, kind, p):
     if kind == "saw":
         return 6 * p, 9 * (p % 5) + rng.randint(-2, 2)
     return rng.randint(-9, 9), rng.randint(-9, 9)
+
+
+def marked_sample(rng, kind, often, p):
+    """The same with a mark, 1 as often as told."""
+    return *sample(rng, kind, p), int(rng.random() < often)
 
 
 def tolerances(rng, kind, m):
@@ -73,23 +80,24 @@ def illegal_cells(k, i, j):
 # ---- Replay cases --------------------------------------------------------------------------------------
 
 
-def grow(rng, kind, m, N, n, spare=0):
+def grow(rng, kind, often, m, N, n, spare=0):
     """A started trace of n samples, with reads on the way."""
-    yield command(BUFS, N + spare, N, m * N * N + spare, n + spare)
+    yield command(BUFS, N + spare, N, m * N * N + spare, n + spare, N + spare)
     yield command(START, m, N, *tolerances(rng, kind, m))
     for p in range(n):
-        yield command(PUT, p, *sample(rng, kind, p))
+        yield command(PUT, p, *marked_sample(rng, kind, often, p))
         if rng.random() < 0.3:
             yield command(READ)
 
 
-def corrections(rng, kind, n, times):
-    """Corrections of first, last and other samples, some taken back, each followed by a read."""
+def corrections(rng, kind, often, n, times):
+    """Corrections of first, last and other samples, some taken back, some of the mark alone; reads between."""
     for v in [0, n - 1, *(rng.randrange(n) for _ in range(times))]:
-        yield command(PUT, v, *sample(rng, kind, v))
+        yield command(PUT, v, *marked_sample(rng, kind, often, v))
         yield command(READ)
-        if rng.random() < 0.3:
-            here, there = sample(rng, kind, v), sample(rng, kind, v + 1)
+        if rng.random() < 0.4:
+            here = x, y, mark = marked_sample(rng, kind, often, v)
+            there = rng.choice([(x, y, 1 - mark), marked_sample(rng, kind, often, v + 1)])
             for place in here, there, here:
                 yield command(PUT, v, *place)
             yield command(READ)
@@ -97,10 +105,10 @@ def corrections(rng, kind, n, times):
 
 def own_case(rng, most_n, most_m):
     """A trace with a table of its own."""
-    kind, m, n = rng.choice(KINDS), rng.randint(1, most_m), rng.randint(2, most_n)
-    yield from grow(rng, kind, m, max(n, 2) + rng.randint(0, 2), n, rng.randint(0, 3))
+    kind, often, m, n = rng.choice(KINDS), rng.choice(OFTEN), rng.randint(1, most_m), rng.randint(2, most_n)
+    yield from grow(rng, kind, often, m, max(n, 2) + rng.randint(0, 2), n, rng.randint(0, 3))
     yield command(READ)
-    yield from corrections(rng, kind, n, rng.randint(0, 3))
+    yield from corrections(rng, kind, often, n, rng.randint(0, 3))
     asked = list(product(combinations(range(n), 2), range(1, m + 1)))
     for (i, j), k in asked if rng.random() < 0.1 and n < 8 else rng.sample(asked, min(3, len(asked))):
         yield command(ASK, i, j, k)
@@ -108,9 +116,9 @@ def own_case(rng, most_n, most_m):
 
 def foreign_case(rng):
     """A trace whose table or samples are changed behind its back, to other legal values."""
-    kind, m, n = rng.choice(KINDS), rng.randint(1, 4), rng.randint(3, 6)
+    kind, often, m, n = rng.choice(KINDS), rng.choice(OFTEN), rng.randint(1, 4), rng.randint(3, 6)
     N = n + 2
-    yield from grow(rng, kind, m, N, n, 2)
+    yield from grow(rng, kind, often, m, N, n, 2)
     cells = list(product(range(1, m + 1), combinations(range(n), 2)))
     tastes = rng.choice([["none", "least", "least", "least"], rng.choices(TASTES, k=4)])  # each level's cells alike
     chosen = cells if rng.random() < 0.4 else rng.sample(cells, rng.randint(1, len(cells)))
@@ -119,6 +127,8 @@ def foreign_case(rng):
         yield command(POKE, CELL, (k - 1) * N * N + i * N + j, legal_cell(rng, k, i, j, taste))
     for _ in range(rng.choice([0, 0, 2])):
         yield command(POKE, rng.choice([ACROSS, UP]), rng.randrange(n), rng.choice([-16384, 16384, 0, 7]))
+    for _ in range(rng.choice([0, 0, 2])):
+        yield command(POKE, MARK, rng.randrange(n), rng.randint(0, 1))
     if rng.random() < 0.3:
         yield command(SETUP, m, N, n, *tolerances(rng, kind, m)[:m], *[rng.randint(0, 9) for _ in range(16 - m)])
     yield command(READ)
@@ -126,7 +136,7 @@ def foreign_case(rng):
     for _ in range(rng.randint(2, 4)):
         v = rng.randrange(n) if rng.random() < 0.7 else held
         held += v == held < N
-        yield command(PUT, v, *sample(rng, kind, n))
+        yield command(PUT, v, *marked_sample(rng, kind, often, n))
         yield command(READ)
 
 
@@ -138,24 +148,26 @@ def spoiled_tolerances(rng, m, good):
 
 
 def spoiled_places(rng, call, m, N, n):
-    """Pokes that make one stored coordinate bad, or one cell where the call checks cells."""
+    """A poke that makes a stored coordinate or mark bad, or a cell where the call checks cells."""
     pairs = list(combinations(range(min(n, N)), 2))
-    if call == ASK or not pairs or rng.random() < 0.5:
-        place = rng.randrange(min(n, N - 1))
-        yield command(POKE, rng.choice([ACROSS, UP]), place, rng.choice([16385, -16385, 32767, -32768]))
-    else:
+    which = rng.choice([ACROSS, UP, MARK] + [CELL] * 3 * (call != ASK and pairs != []))
+    if which == CELL:
         k, (i, j) = rng.randint(1, m), rng.choice(pairs)
         yield command(POKE, CELL, (k - 1) * N * N + i * N + j, rng.choice(illegal_cells(k, i, j)))
+    else:
+        bad = [2, 17, 255] if which == MARK else [16385, -16385, 32767, -32768]
+        yield command(POKE, which, rng.randrange(min(n, N - 1)), rng.choice(bad))
 
 
 def refused_call(rng, call, faults, n, N, m):
     """The call itself, with the faults that lie in its arguments."""
-    x, y = sample(rng, "noisy", 0)
+    x, y, mark = marked_sample(rng, "noisy", 0.3, 0)
     if 6 in faults:
-        x, y = rng.choice([(16385, y), (x, 16385), (-16385, y), (x, -16385), (32767, -32768)])
+        far = [(16385, y), (x, 16385), (-16385, y), (x, -16385), (32767, -32768)]
+        x, y, mark = rng.choice([(*rng.choice(far), mark), (x, y, 2), (x, y, 255), (*rng.choice(far), 2)])
     if call == PUT:
         v = n if 7 in faults else rng.choice([n + 1, n + 2, 2**31 - 1]) if 8 in faults else rng.randrange(min(n + 1, N))
-        return command(PUT, v, x, y)
+        return command(PUT, v, x, y, mark)
     if call == READ:
         return command(READ)
     i, j, k = 0, max(n - 1, 1), rng.randint(1, m)
@@ -172,14 +184,13 @@ def refused_case(rng, call, faults):
     N = n if 7 in faults else max(n, 2) + rng.randint(0 if call == PUT else 1, 2)
     if 4 in faults:
         n = N + rng.choice([1, 1, 40])
-    lends = [N, N, m * N * N, n if call == READ else 0]
+    lends = [N, N, m * N * N, n if call == READ else 0, N]
     if 3 in faults:
-        lends[rng.choice([ACROSS, UP] + [CELL] * (call != ASK) + [RANK] * (call == READ and n > 0))] -= 1
+        lends[rng.choice([ACROSS, UP, MARK] + [CELL] * (call != ASK) + [RANK] * (call == READ and n > 0))] -= 1
     yield command(BUFS, *lends)
-    for p in range(min(n, lends[ACROSS], lends[UP])):
-        x, y = sample(rng, kind, p)
-        yield command(POKE, ACROSS, p, x)
-        yield command(POKE, UP, p, y)
+    for p in range(min(n, lends[ACROSS], lends[UP], lends[MARK])):
+        for which, value in zip((ACROSS, UP, MARK), marked_sample(rng, kind, 0.3, p)):
+            yield command(POKE, which, p, value)
     for k, (i, j) in product(range(1, m + 1), combinations(range(min(n, N)), 2)):
         yield command(POKE, CELL, (k - 1) * N * N + i * N + j, legal_cell(rng, k, i, j))
     if 5 in faults:
@@ -215,10 +226,12 @@ def number(rng):
 
 def wild_case(rng):
     """A trace, then commands of any operation with any numbers; many print a question mark."""
-    yield from grow(rng, rng.choice(KINDS), rng.randint(1, 3), 6, rng.randint(1, 5))
+    yield from grow(rng, rng.choice(KINDS), rng.choice(OFTEN), rng.randint(1, 3), 6, rng.randint(1, 5))
     for _ in range(rng.randint(5, 15)):
         operation = rng.choice([POKE, POKE, SETUP, START, PUT, PUT, ASK, READ, DECODE, BUFS, rng.randrange(256)])
         numbers = [number(rng) if rng.random() < 0.3 else rng.randint(0, 6) for _ in range(19)]
+        if operation == PUT and rng.random() < 0.8:
+            numbers[3] %= 2
         wild = bytearray(command(operation, *numbers))
         if rng.random() < 0.03:
             wild[rng.randint(1, 3)] = rng.randint(1, 255)
@@ -254,21 +267,24 @@ def decode_case(rng):
     yield bytes([DECODE, 0, 0, 0]) + body + bytes(rng.randrange(256) for _ in range(60))
 
 
-def later(rng, pause, boot):
-    """A pause counter and a boot number after these: it stays, rises, rolls over, or restarts, lower or higher."""
+def later(rng, pause, boot, often):
+    """A pause counter and a boot number after these: it stays or rises, or as often as told leaps, rolls over, or
+    restarts, lower or higher."""
     more, new = rng.randrange(900), rng.choice([(boot + 1) % 2**16, rng.getrandbits(16)])
-    return rng.choice([(pause, boot), (min(pause + more, TOP), boot), (TOP, boot), (more, boot),
-                       ((pause + rng.getrandbits(32)) % 2**32, boot), (more, new), (min(pause + more, TOP), new)])
+    if rng.random() >= often:
+        return rng.choice([(pause, boot), (min(pause + more, TOP), boot)])
+    return rng.choice([(TOP, boot), (more, boot), ((pause + rng.getrandbits(32)) % 2**32, boot), (more, new),
+                       (min(pause + more, TOP), new)])
 
 
 def day(rng, count, kind=None):
     """Good records of one kind, of one edition or of both, some of them after a restart."""
     kind, editions, records = kind or rng.choice(KINDS), rng.choice([(0,), (1,), (0, 1)]), []
-    pause, boot = rng.choice([0, 500, TOP]), rng.choice([0, 1, 65535])
+    pause, boot, often = rng.choice([0, 500, TOP]), rng.choice([0, 1, 65535]), rng.choice(OFTEN)
     for p in range(count):
         rank, edition = rng.choice([0, 0, rng.randint(1, 16)]), rng.choice(editions)
         records.append(record(*sample(rng, kind, p), pause, rank, boot * edition, edition))
-        pause, boot = later(rng, pause, boot)
+        pause, boot = later(rng, pause, boot, often)
     return b"".join(records)
 
 

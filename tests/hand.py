@@ -20,23 +20,56 @@ NEAR = [  # a, b, passed sample, tolerance, permitted
 ]
 FIVE = [(0, 0), (10, 1), (20, 0), (30, 3), (40, 0)]
 HILL = [(0, 0), (10, 2), (20, 9), (30, 4), (40, 0)]
-SPOILERS = [  # samples, stretch, tolerance, those that lie too far away
-    (HILL, (0, 4), 1, [1, 2, 3]),
-    (HILL, (0, 4), 2, [2, 3]),
-    (HILL, (0, 4), 4, [2]),
-    (HILL, (0, 4), 9, []),
-    (HILL, (1, 3), 1, [2]),
-    (HILL, (1, 2), 1, []),
-    (FIVE, (0, 4), 1, [3]),
-    (FIVE, (0, 2), 1, []),
+LINE = [(0, 0), (10, 0), (20, 0)]
+SPOILERS = [  # samples, which of them are marked, stretch, tolerance, those that spoil it
+    (HILL, [], (0, 4), 1, [1, 2, 3]),
+    (HILL, [], (0, 4), 2, [2, 3]),
+    (HILL, [], (0, 4), 4, [2]),
+    (HILL, [], (0, 4), 9, []),
+    (HILL, [], (1, 3), 1, [2]),
+    (HILL, [], (1, 2), 1, []),
+    (FIVE, [], (0, 4), 1, [3]),
+    (FIVE, [], (0, 2), 1, []),
+    (HILL, [1], (0, 4), 4, [1, 2]),  # marked before one that lies too far away, and after it
+    (HILL, [3], (0, 4), 4, [2, 3]),
+    (HILL, [3], (0, 4), 9, [3]),
+    (HILL, [2], (0, 4), 1, [1, 2, 3]),
+    (HILL, [0, 4], (0, 4), 9, []),  # marked ends
+    (HILL, [1, 3], (1, 3), 5, [2]),
+    (HILL, [1, 2], (1, 2), 1, []),
+    (HILL, [2], (2, 4), 1, []),
+    (HILL, [2], (0, 2), 4, []),
+    (LINE, [1], (0, 2), 1, [1]),
+    (LINE, [1], (0, 2), 10**9, [1]),
+    (LINE, [0, 2], (0, 2), 1, []),
+    (LINE, [0, 1, 2], (0, 2), 32_768, [1]),
 ]
-RANKS = [  # samples, tolerances, ranks, total
-    ([(0, 0), (10, 2), (20, 2), (30, 0)], (1,), [1, 0, 1, 1], 2),
-    ([(0, 0), (10, 1), (20, 0), (20, 20)], (1, 10), [2, 0, 2, 2], 4),
-    (FIVE, (1, 4, 16), [3, 0, 1, 1, 3], 5),
-    ([(5, 5), (-7, 9)], tuple(range(1, 17)), [16, 16], 16),
+RANKS = [  # samples, which of them are marked, tolerances, ranks, total
+    ([(0, 0), (10, 2), (20, 2), (30, 0)], [], (1,), [1, 0, 1, 1], 2),
+    ([(0, 0), (10, 2), (20, 2), (30, 0)], [1], (1,), [1, 1, 0, 1], 2),
+    ([(0, 0), (10, 1), (20, 0), (20, 20)], [], (1, 10), [2, 0, 2, 2], 4),
+    ([(0, 0), (10, 1), (20, 0), (20, 20)], [1], (1, 10), [2, 2, 1, 2], 5),
+    (FIVE, [], (1, 4, 16), [3, 0, 1, 1, 3], 5),
+    (FIVE, [2], (1, 4, 16), [3, 0, 3, 1, 3], 7),
+    (FIVE, [0, 4], (1, 4, 16), [3, 0, 1, 1, 3], 5),
+    (LINE, [], (1, 2), [2, 0, 2], 2),
+    (LINE, [1], (1, 2), [2, 2, 2], 4),
+    (LINE, [0, 2], (1, 2), [2, 0, 2], 2),
+    (LINE, [1], tuple(range(1, 17)), [16, 16, 16], 32),
+    ([(5, 5), (-7, 9)], [], tuple(range(1, 17)), [16, 16], 16),
+    ([(5, 5), (-7, 9)], [0, 1], tuple(range(1, 17)), [16, 16], 16),
 ]
-COSTS = [((2, 0, 4), 4), ((3, 0, 4), 5), ((1, 0, 4), 65_535)]
+COSTS = [  # of the five samples: which of them are marked, cell, cost
+    ([], (2, 0, 4), 4),
+    ([], (3, 0, 4), 5),
+    ([], (1, 0, 4), 65_535),
+    ([2], (3, 0, 4), 65_535),
+    ([2], (3, 1, 3), 65_535),
+    ([2], (3, 0, 2), 3),
+    ([2], (1, 2, 4), 65_535),
+    ([2], (2, 2, 4), 3),
+    ([2], (3, 2, 4), 4),
+]
 STARTS = [  # m, N, tolerances, refusal
     (2, 8, (4, 4), 2),
     (1, 8, (0,), 2),
@@ -46,18 +79,21 @@ STARTS = [  # m, N, tolerances, refusal
     (1, 257, (1,), 1),
     (17, 8, (0,), 1),
 ]
-INCREASES = [  # counter, boot and edition of a record and of the next; what that adds
-    ((500, 0, 0), (900, 0, 0), 400),
-    ((900, 0, 0), (120, 0, 0), 120),
-    ((500, 1, 1), (900, 1, 1), 400),
-    ((900, 1, 1), (120, 2, 1), 120),
-    ((500, 1, 1), (900, 2, 1), 900),  # a restart that overtakes
-    ((4_294_967_290, 7, 1), (4, 7, 1), 10),  # a roll-over
-    ((900, 0, 1), (120, 0, 1), 4_294_966_516),
-    ((900, 0, 0), (120, 0, 1), 120),
-    ((900, 0, 1), (120, 0, 0), 120),
-    ((500, 0, 0), (900, 2, 1), 400),
-    ((500, 2, 1), (900, 0, 0), 400),
+INCREASES = [  # counter, boot and edition of a record and of the next; what that adds, and whether it is marked
+    ((500, 0, 0), (900, 0, 0), 400, False),
+    ((500, 0, 0), (500, 0, 0), 0, False),
+    ((900, 0, 0), (120, 0, 0), 120, True),
+    ((500, 1, 1), (900, 1, 1), 400, False),
+    ((900, 1, 1), (120, 2, 1), 120, True),
+    ((500, 1, 1), (900, 2, 1), 900, True),  # a restart that overtakes
+    ((500, 2, 1), (500, 1, 1), 500, True),
+    ((4_294_967_290, 7, 1), (4, 7, 1), 10, False),  # a roll-over
+    ((900, 0, 1), (120, 0, 1), 4_294_966_516, False),
+    ((900, 0, 0), (120, 0, 1), 120, True),
+    ((900, 0, 1), (120, 0, 0), 120, True),
+    ((900, 0, 0), (120, 7, 1), 120, True),
+    ((500, 0, 0), (900, 2, 1), 400, False),
+    ((500, 2, 1), (900, 0, 0), 400, False),
 ]
 BOOTED = b"\x0a\x00\x01\x00\x84\x03\x00\x00\x02\x39\x30\x01" + bytes(4)
 DAY = (b"\x00\x00\x00\x00\xf4\x01\x00\x00" + bytes(8) + b"\x0a\x00\x01\x00\x84\x03\x00\x00" + bytes(8)
@@ -66,69 +102,98 @@ DAY = (b"\x00\x00\x00\x00\xf4\x01\x00\x00" + bytes(8) + b"\x0a\x00\x01\x00\x84\x
 DAY_PRINTED = """samples 5 levels 3
 0 0 0 3
 1 10 1 0
-2 20 0 1
+2 20 0 3
 3 30 3 1
 4 40 0 3
-segments 5 3 1 1
+segments 7 3 2 2
 pause 600
 """
 
 
 def lend(N, m):
-    return plain.Lent(array("h", [0] * N), array("h", [0] * N), array("H", [0] * m * N * N), array("B", [9] * N))
+    return plain.Lent(array("h", [0] * N), array("h", [0] * N), array("H", [0] * m * N * N), array("B", [9] * N),
+                      array("B", [9] * N))
+
+
+def mark(samples, *which):
+    """Each sample with its mark, 1 for those of these numbers."""
+    return [(*one, int(p in which)) for p, one in enumerate(samples)]
 
 
 def hold(samples, tolerances):
-    """A trace that holds these samples, and its buffers."""
+    """A trace that holds these samples with their marks, and its buffers."""
     lent = lend(16, len(tolerances))
     refusal, trace = plain.start(len(tolerances), 16, tolerances)
-    for v, (x, y) in enumerate(samples):
+    for v, one in enumerate(samples):
         assert refusal == 0
-        refusal, _, trace = plain.put(trace, lent, v, x, y)
+        refusal, _, trace = plain.put(trace, lent, v, *one)
     return trace, lent
 
 
 def check_geometry():
     for a, b, q, e, expected in NEAR:
-        assert plain.permitted([a, q, b], 0, 2, e) == expected, (a, b, q, e)
-    for samples, (i, j), e, expected in SPOILERS:
-        assert plain.spoilers(samples, i, j, e) == expected, (samples, i, j, e)
+        assert plain.permitted(mark([a, q, b]), 0, 2, e) == expected, (a, b, q, e)
+    for samples, marked, (i, j), e, expected in SPOILERS:
+        assert plain.spoilers(mark(samples, *marked), i, j, e) == expected, (samples, marked, i, j, e)
     ways = [(s, r) for r in range(1, 9) for s in range(r + 1)]
     for bx, by, x, y, e in product(range(-2, 3), range(-2, 3), range(-2, 3), range(-2, 3), range(4)):
         some = any((r * x - s * bx) ** 2 + (r * y - s * by) ** 2 <= e * e * r * r for s, r in ways)
-        assert plain.permitted([(0, 0), (x, y), (bx, by)], 0, 2, e) == some, (bx, by, x, y, e)
+        assert plain.permitted(mark([(0, 0), (x, y), (bx, by)]), 0, 2, e) == some, (bx, by, x, y, e)
 
 
 def check_ranks():
-    for samples, tolerances, ranks, total in RANKS:
+    for points, marked, tolerances, ranks, total in RANKS:
+        samples = mark(points, *marked)
         trace, lent = hold(samples, tolerances)
         refusal, found, _ = plain.read(trace, lent)
         family = plain.chosen_family(samples, tolerances)
         assert (refusal, found, list(lent.ranks[:trace.n])) == (0, total, ranks), (samples, found)
         assert plain.segments(family) == total and plain.ranks_of(family, len(samples)) == ranks, family
-    trace, lent = hold(FIVE, (1, 4, 16))
-    for (k, i, j), expected in COSTS:
-        assert lent.table[trace.place(k, i, j)] == expected
-        assert plain.cost(plain.permitted_stretches(FIVE, (1, 4, 16)), k, i, j) == expected
+    for marked, (k, i, j), expected in COSTS:
+        samples = mark(FIVE, *marked)
+        trace, lent = hold(samples, (1, 4, 16))
+        assert lent.table[trace.place(k, i, j)] == expected, (marked, k, i, j)
+        assert plain.cost(plain.permitted_stretches(samples, (1, 4, 16)), k, i, j) == expected, (marked, k, i, j)
+
+
+def check_corrected_marks():
+    """A mark set, and a mark cleared, by a correction leaves what putting the samples so from the start leaves."""
+    for which, v in product(product((0, 1), repeat=5), range(5)):
+        marked = {p for p in range(5) if which[p]}
+        before, after = mark(HILL, *marked), mark(HILL, *marked ^ {v})
+        trace, lent = hold(before, (1, 4, 9))
+        assert plain.put(trace, lent, v, *after[v]) == (0, 3 * ((v + 1) * (5 - v) - 1), trace), (marked, v)
+        assert (trace, lent) == hold(after, (1, 4, 9)), (marked, v)
 
 
 def check_refusals():
     for m, N, tolerances, refusal in STARTS:
         padded = (*tolerances, *[0] * (16 - len(tolerances)))
         assert plain.start(m, N, padded)[0] == refusal, (m, N, tolerances)
-    trace, lent = hold([(0, 0)], (1,))
+    trace, lent = hold([(0, 0, 0)], (1,))
     assert plain.read(trace, lent) == (9, 0, [0] * 16)
-    assert plain.put(trace, lent, 1, 16_385, 0) == (6, 0, trace)
-    assert plain.put(trace, lent, 2, 0, 0) == (8, 0, trace)
-    assert plain.put(trace, lent, 1, 16_384, -16_384) == (0, 1, trace._replace(n=2))
-    assert plain.put(trace, lent, 0, 1, 1) == (0, 0, trace)
+    for bad in (16_385, 0, 0), (0, 0, 2), (0, 0, 255), (16_385, 0, 2):
+        assert plain.put(trace, lent, 1, *bad) == (6, 0, trace), bad
+    assert plain.put(trace, lent, 2, 0, 0, 0) == (8, 0, trace)
+    assert plain.put(trace, lent, 1, 16_384, -16_384, 1) == (0, 1, trace._replace(n=2))
+    assert plain.put(trace, lent, 0, 1, 1, 1) == (0, 0, trace)
+
+
+def check_lent_marks():
+    """Each call with a mark buffer one byte short of N, a mark above 1 below n, and such marks only past n."""
+    trace, lent = hold(mark(LINE, 2), (1, 2))
+    short, bad = lent._replace(marks=lent.marks[:15]), lent._replace(marks=array("B", [0, 0, 2] + [0] * 13))
+    for given, refusal in (short, 3), (bad, 5), (lent, 0):
+        calls = plain.put(trace, given, 1, 0, 0, 0), plain.ask(trace, given, 0, 1, 1), plain.read(trace, given)
+        assert [answer[0] for answer in calls] == [refusal] * 3, calls
+    assert lent.marks == array("B", [0, 0, 1] + [9] * 13)
 
 
 def check_places():
     """A sample put at every place: refused with 7 or 8, or the count is m times n, or that of a correction."""
     for n, v in product(range(17), range(19)):
-        trace, lent = hold([(p, p * p % 5) for p in range(n)], (1, 2, 3))
-        refusal, cells, after = plain.put(trace, lent, v, 4, 4)
+        trace, lent = hold([(p, p * p % 5, p % 2) for p in range(n)], (1, 2, 3))
+        refusal, cells, after = plain.put(trace, lent, v, 4, 4, 1)
         if v < n:
             assert (refusal, cells, after.n) == (0, 3 * ((v + 1) * (n - v) - 1), n), (n, v)
         elif v == n < 16:
@@ -152,9 +217,11 @@ def check_records():
     assert plain.decode(BOOTED) == (0, (10, 1, 900, 2, 12_345, 1))
     assert plain.decode(DAY[:15])[0] == 10
     assert [plain.decode(BOOTED[:11] + bytes([e]) + BOOTED[12:])[0] for e in (0, 1, 2, 255)] == [11, 0, 11, 11]
-    for earlier, later, expected in INCREASES:
-        told = b"".join(record(0, 0, pause, 0, boot, edition) for pause, boot, edition in (earlier, later))
+    for earlier, later, expected, restart in INCREASES:
+        told = b"".join(record(p, 0, pause, 0, boot, edition)
+                        for p, (pause, boot, edition) in enumerate((earlier, later, later)))
         assert plain.pause_line(told) == (0, expected), (earlier, later)
+        assert f"\n1 1 0 {3 if restart else 0}\n" in plain.dayline(told), (earlier, later)
     assert plain.pause_line(DAY[:64]) == (0, 600)
     assert plain.dayline(DAY) == DAY_PRINTED
     assert plain.dayline(b"") == plain.dayline(DAY[:16]) == "refused 9\n"
@@ -163,7 +230,9 @@ def check_records():
 def check():
     check_geometry()
     check_ranks()
+    check_corrected_marks()
     check_refusals()
+    check_lent_marks()
     check_places()
     check_lowest()
     check_records()

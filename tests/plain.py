@@ -2,13 +2,14 @@
 
 Every answer is worked out here a second time: geometry in whole numbers of any size, families by trying
 every one, refusals row by row. On small traces the least sums are compared with the search over every
-family at each call; a difference stops the program.
+family at each call, and each family must hold every marked sample at every level; a difference stops the program.
 """
 
 import struct
 import zlib
 from array import array
 from itertools import combinations, pairwise
+from math import inf
 from typing import NamedTuple
 
 NOT_PERMITTED = 65_535
@@ -20,23 +21,24 @@ FAMILIES_TRIED = 1_100  # a trace with at most this many ways to rank its sample
 def misses(samples, i, j):
     """The squared length of r(q-a) - s(b-a) for each sample q between i and j, in order, and r.
 
-    s of r is how far along the closed segment from a to b the point nearest to q lies.
+    s of r is how far along the closed segment from a to b the point nearest to q lies. A marked sample misses by
+    more than any tolerance.
     """
-    (ax, ay), (bx, by) = samples[i], samples[j]
+    (ax, ay, _), (bx, by, _) = samples[i], samples[j]
     across, up = bx - ax, by - ay
     r = across * across + up * up or 1  # a = b: r is 1, s is 0
     found = []
-    for x, y in samples[i + 1:j]:
+    for x, y, mark in samples[i + 1:j]:
         x, y = x - ax, y - ay
         along = x * across + y * up
         s = 0 if along < 0 else r if along > r else along
         dx, dy = r * x - s * across, r * y - s * up
-        found.append(dx * dx + dy * dy)
+        found.append(inf if mark else dx * dx + dy * dy)
     return found, r
 
 
 def spoilers(samples, i, j, e):
-    """The samples between i and j that lie too far from the segment, in order."""
+    """The samples between i and j that are marked or lie too far from the segment, in order."""
     found, r = misses(samples, i, j)
     return [i + 1 + p for p, miss in enumerate(found) if miss > e * e * r * r]
 
@@ -86,9 +88,17 @@ def cost(stretches, k, i, j):
     return min(segments(family) for family in alone if family[-1] == [i, j])
 
 
+def keep_marked(samples, every):
+    """Stops when one of the families leaves a marked sample out of a level."""
+    marked = {p for p, (_, _, mark) in enumerate(samples) if mark}
+    for family in every:
+        assert all(marked <= set(level) for level in family), f"{family} leaves out a mark of {samples}"
+
+
 def chosen_family(samples, tolerances):
     """Of the minimal families the one whose lists, coarsest first, hold the larger number where they differ."""
     every = list(families(list(range(len(samples))), permitted_stretches(samples, tolerances)))
+    keep_marked(samples, every)
     least = min(map(segments, every))
     return max((family for family in every if segments(family) == least), key=lambda family: family[::-1])
 
@@ -118,9 +128,10 @@ class Lent(NamedTuple):
     up: array
     table: array
     ranks: array
+    marks: array
 
     def samples(self, n):
-        return list(zip(self.across[:n], self.up[:n]))
+        return list(zip(self.across[:n], self.up[:n], self.marks[:n]))
 
 
 NO_TRACE = Trace(0, 0, 0, (0,) * 16)
@@ -167,16 +178,20 @@ def bad_coordinates(*values):
     return any(not -16_384 <= value <= 16_384 for value in values)
 
 
-def short_coordinates(trace, lent):
-    return min(len(lent.across), len(lent.up)) < trace.N
+def bad_marks(*values):
+    return any(value > 1 for value in values)
+
+
+def short_samples(trace, lent):
+    return min(len(lent.across), len(lent.up), len(lent.marks)) < trace.N
 
 
 def short_table(trace, lent):
-    return short_coordinates(trace, lent) or len(lent.table) < trace.m * trace.N * trace.N
+    return short_samples(trace, lent) or len(lent.table) < trace.m * trace.N * trace.N
 
 
 def bad_stored(trace, lent):
-    return bad_coordinates(*lent.across[:trace.n], *lent.up[:trace.n])
+    return bad_coordinates(*lent.across[:trace.n], *lent.up[:trace.n]) or bad_marks(*lent.marks[:trace.n])
 
 
 def bad_cell(trace, table):
@@ -251,22 +266,22 @@ def start(m, N, tolerances):
     return (refusal, NO_TRACE) if refusal else (0, trace)
 
 
-def put(trace, lent, v, x, y):
+def put(trace, lent, v, x, y, mark):
     """Corrects sample v, or adds it where v is n."""
     refusal = lowest(*table_checks(trace, lent),
-                     (6, lambda: bad_coordinates(x, y)),
+                     (6, lambda: bad_coordinates(x, y) or bad_marks(mark)),
                      (7, lambda: v == trace.n == trace.N),
                      (8, lambda: v > trace.n))
     if refusal:
         return refusal, 0, trace
-    lent.across[v], lent.up[v] = x, y
+    lent.across[v], lent.up[v], lent.marks[v] = x, y, mark
     after = trace._replace(n=trace.n + 1) if v == trace.n else trace
     return 0, rewrite(after, lent, v), after
 
 
 def ask(trace, lent, i, j, k):
     refusal = lowest(*setup_checks(trace),
-                     (3, lambda: short_coordinates(trace, lent)),
+                     (3, lambda: short_samples(trace, lent)),
                      (4, lambda: trace.n > trace.N),
                      (5, lambda: bad_stored(trace, lent)),
                      (8, lambda: i >= j or j >= trace.n or not 1 <= k <= trace.m))
@@ -321,11 +336,16 @@ def decode(data):
     return (refusal, NO_RECORD) if refusal else (0, record)
 
 
-def increase(earlier, later):
-    """What the later record adds to the pause line."""
+def restarted(earlier, later):
+    """Whether a restart lies between the two records."""
     if earlier.edition == later.edition == 1:
-        return (later.pause - earlier.pause) % 4_294_967_296 if later.boot == earlier.boot else later.pause
-    return later.pause - earlier.pause if later.pause >= earlier.pause else later.pause
+        return later.boot != earlier.boot
+    return later.pause < earlier.pause
+
+
+def increase(earlier, later):
+    """What the later record adds to the pause line. Only between two of edition 1 can the counter roll over."""
+    return later.pause if restarted(earlier, later) else (later.pause - earlier.pause) % 4_294_967_296
 
 
 def split_records(data):
@@ -350,10 +370,12 @@ def dayline(data):
     if refusal:
         return f"refused {refusal}\n"
     _, trace = start(3, 104, (1, 4, 16) + (0,) * 13)
-    lent = Lent(array("h", [0] * 104), array("h", [0] * 104), array("H", [0] * 32_768), array("B", [0] * 104))
-    for place, one in enumerate(split_records(data)):
-        _, record = decode(one)
-        refusal, _, trace = put(trace, lent, place, record.across, record.up)
+    lent = Lent(array("h", [0] * 104), array("h", [0] * 104), array("H", [0] * 32_768), array("B", [0] * 104),
+                array("B", [0] * 104))
+    records = [decode(one)[1] for one in split_records(data)]
+    marks = [0, *(int(restarted(*pair)) for pair in pairwise(records))]
+    for place, (record, mark) in enumerate(zip(records, marks)):
+        refusal, _, trace = put(trace, lent, place, record.across, record.up, mark)
         if refusal:
             return f"refused {refusal}\n"
     refusal, total, counts = read(trace, lent)
@@ -383,18 +405,18 @@ def days(data):
 
 BUFS, SETUP, POKE, START = range(4)
 ASK, READ, DECODE, PUT = range(6, 10)
-UNSIGNED, SIGNED16 = (0, 2**31 - 1), (-2**15, 2**15 - 1)
+UNSIGNED, SIGNED16, BYTE = (0, 2**31 - 1), (-2**15, 2**15 - 1), (0, 2**8 - 1)
 ARGUMENTS = {  # the range of each number that the operation uses
-    BUFS: [(0, 320), (0, 320), (0, 1_048_576), (0, 320)],
+    BUFS: [(0, 320), (0, 320), (0, 1_048_576), (0, 320), (0, 320)],
     SETUP: [UNSIGNED] * 19,
-    POKE: [(0, 3), UNSIGNED, (-2**31, 2**31 - 1)],
+    POKE: [(0, 4), UNSIGNED, (-2**31, 2**31 - 1)],
     START: [UNSIGNED] * 18,
     ASK: [UNSIGNED] * 3,
     READ: [],
     DECODE: [],
-    PUT: [UNSIGNED, SIGNED16, SIGNED16],
+    PUT: [UNSIGNED, SIGNED16, SIGNED16, BYTE],
 }
-POKED = [SIGNED16, SIGNED16, (0, 2**16 - 1), (0, 2**8 - 1)]
+POKED = [SIGNED16, SIGNED16, (0, 2**16 - 1), BYTE, BYTE]
 
 
 def filled(kind, length, factor, offset):
@@ -411,7 +433,7 @@ class Replay:
     def __init__(self):
         self.trace = NO_TRACE
         self.own_table = True  # every cell of the trace was written by calls of this trace
-        self.bufs(0, 0, 0, 0)
+        self.bufs(0, 0, 0, 0, 0)
 
     def answer(self, command):
         """The line that a command prints, None when it prints nothing."""
@@ -436,9 +458,9 @@ class Replay:
         return value
 
     def bufs(self, *lengths):
-        LX, LY, LT, LR = lengths
-        self.lent = Lent(filled("h", LX, 7_919, 13), filled("h", LY, 104_729, 29),
-                         filled("H", LT, 40_503, 7), filled("B", LR, 31, 5))
+        LX, LY, LT, LR, LM = lengths
+        self.lent = Lent(filled("h", LX, 7_919, 13), filled("h", LY, 104_729, 29), filled("H", LT, 40_503, 7),
+                         filled("B", LR, 31, 5), filled("B", LM, 17, 2))
         self.own_table = self.trace.n == 0
 
     def setup(self, m, N, n, *tolerances):
@@ -458,17 +480,17 @@ class Replay:
         given = (refusal, self.trace.m, self.trace.N, self.trace.n, *self.trace.tolerances)
         return " ".join(map(str, given))
 
-    def put(self, v, x, y):
-        refusal, cells, self.trace = put(self.trace, self.lent, v, x, y)
+    def put(self, v, x, y, mark):
+        refusal, cells, self.trace = put(self.trace, self.lent, v, x, y, mark)
         if not refusal and self.own_table:
             compare_costs(self.trace, self.lent)
         return f"{refusal} {cells} {self.trace.n} {self.checksum()}"
 
     def ask(self, i, j, k):
-        refusal, far = ask(self.trace, self.lent, i, j, k)
+        refusal, found = ask(self.trace, self.lent, i, j, k)
         if refusal:
             return f"{refusal} - -"
-        return f"0 0 {min(far)}" if far else "0 1 -"
+        return f"0 0 {min(found)}" if found else "0 1 -"
 
     def read(self):
         refusal, total, counts = read(self.trace, self.lent)
