@@ -7,10 +7,10 @@ use Rattle.cases.proofs.add_all.Statement.{statement}
 use Rattle.cases.proofs.add_all.Tie as tie
 
 abbrev Inv-loop : tie.InvT-loop
-Inv-loop xs₀ ys₀ table₀ n samples trace₀ i₀ xs ys table trace i = (i ≤ n) × (length xs ≡ length xs₀) × (length ys ≡ length ys₀) × (length table ≡ length table₀)
+Inv-loop xs₀ ys₀ marks₀ table₀ n restart samples trace₀ i₀ xs ys marks table trace i = (i ≤ n) × (length xs ≡ length xs₀) × (length ys ≡ length ys₀) × (length marks ≡ length marks₀) × (length table ≡ length table₀)
 
 abbrev μ-loop : tie.MeasureT-loop
-μ-loop xs₀ ys₀ table₀ n samples trace₀ i₀ xs ys table trace i = n - i
+μ-loop xs₀ ys₀ marks₀ table₀ n restart samples trace₀ i₀ xs ys marks table trace i = n - i
 
 loop-holds : tie.Need-loop-holds Inv-loop μ-loop
 loop-holds c = search needs
@@ -36,6 +36,9 @@ mul-y-2 c = search needs
 array-copy-out-y : tie.Need-array-copy-out-y Inv-loop μ-loop
 array-copy-out-y c = search needs
 
+mark-of-requires : tie.Need-mark-of-requires Inv-loop μ-loop
+mark-of-requires c κs = search needs
+
 put-requires : tie.Need-put-requires Inv-loop μ-loop
 put-requires c κs = search needs
 
@@ -57,6 +60,9 @@ same-length-2 c = search needs
 same-length-3 : tie.Need-same-length-3 Inv-loop μ-loop
 same-length-3 c = search needs
 
+same-length-4 : tie.Need-same-length-4 Inv-loop μ-loop
+same-length-4 c = search needs
+
 returns : tie.Need-returns Inv-loop μ-loop
 returns c = search needs
 
@@ -74,6 +80,7 @@ add-all-spec =
     add-y
     mul-y-2
     array-copy-out-y
+    mark-of-requires
     put-requires
     add-i
     loop-less
@@ -81,4 +88,5 @@ add-all-spec =
     same-length
     same-length-2
     same-length-3
+    same-length-4
     returns)
