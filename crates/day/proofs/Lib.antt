@@ -3,4 +3,5 @@ pub mod Filled
 pub mod Lines
 pub mod Listed
 pub mod Reported
+pub mod Restarts
 pub mod Day
