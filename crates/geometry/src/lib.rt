@@ -133,7 +133,7 @@ pub fn judge(xs: &[i16], ys: &[i16], i: usize, j: usize, e: u32, from: usize, to
 
 // The lowest marked sample of those from `from` on and before j, j where there is none.
 fn first_marked(marks: &[u8], from: usize, j: usize) -> usize
-    requires { ⌜ (from ≤ j) × (j ≤ length (now marks)) ⌝ }
+    requires { ⌜ (from ≤ j) × (j < length (now marks)) ⌝ }
     ensures { λ r. ⌜ FirstMarked (now (marks .entry)) from j r ⌝ }
 {
     let mut k = from;
@@ -148,14 +148,14 @@ fn first_marked(marks: &[u8], from: usize, j: usize) -> usize
 
 // The highest marked sample before j, 0 where there is none.
 pub fn last_marked(marks: &[u8], j: usize) -> usize
-    requires { ⌜ j ≤ length (now marks) ⌝ }
+    requires { ⌜ j < length (now marks) ⌝ }
     ensures { λ r. ⌜ LastMarked (now (marks .entry)) j r ⌝ }
 {
-    let mut k = j;
-    while 0 < k {
-        k -= 1;
-        if marks[k] == MARKED {
-            return k;
+    let mut q = j;
+    while 0 < q {
+        q -= 1;
+        if marks[q] == MARKED {
+            return q;
         }
     }
     0
@@ -163,7 +163,7 @@ pub fn last_marked(marks: &[u8], j: usize) -> usize
 
 // Whether the stretch from sample i to sample j is permitted at tolerance e: yes, or no with the lowest sample that is marked or lies too far away.
 pub fn permitted(xs: &[i16], ys: &[i16], marks: &[u8], i: usize, j: usize, e: u32) -> Verdict
-    requires { ⌜ (Ranged (samples (now xs) (now ys) (now marks)) (j + 1)) × (j ≤ length (now marks)) × (i < j) × (e ≤ 65536) ⌝ }
+    requires { ⌜ (Ranged (samples (now xs) (now ys) (now marks)) (j + 1)) × (j < length (now marks)) × (i < j) × (e ≤ 65536) ⌝ }
     ensures { λ r. ⌜ Says (samples (now (xs .entry)) (now (ys .entry)) (now (marks .entry))) i j e r ⌝ }
 {
     let first = first_marked(marks, i + 1, j);

@@ -1,4 +1,4 @@
--- `geometry::last_marked` meets its contract. The loop's invariant: no sample from k on and before j is marked. Assumes nothing.
+-- `geometry::last_marked` meets its contract. The loop's invariant: no sample from q on and before j is marked. Assumes nothing.
 use mathlib.Core.Path.{_≡_, refl}
 use mathlib.Core.Logic.{inl, inr, ⊎-elim}
 use Prim.Native.Nat.{ℕ, _-_, _≤_, _<_}
@@ -9,16 +9,16 @@ use Rattle.geometry.proofs.last_marked.Statement.{statement}
 use Rattle.geometry.proofs.last_marked.Tie as tie
 
 abbrev Inv-loop : tie.InvT-loop
-Inv-loop marks j k₀ k = (k ≤ j) × ((l : ℕ) → k ≤ l → l < j → Marked marks l → ⊥)
+Inv-loop marks j q₀ q = (q ≤ j) × ((l : ℕ) → q ≤ l → l < j → Marked marks l → ⊥)
 
 abbrev μ-loop : tie.MeasureT-loop
-μ-loop marks j k₀ k = k
+μ-loop marks j q₀ q = q
 
 loop-holds : tie.Need-loop-holds Inv-loop μ-loop
 loop-holds c = (omega arith, λ l a b h. absurd (omega arith))
 
-sub-k : tie.Need-sub-k Inv-loop μ-loop
-sub-k c = omega arith
+sub-q : tie.Need-sub-q Inv-loop μ-loop
+sub-q c = omega arith
 
 shared-slice-read-if1 : tie.Need-shared-slice-read-if1 Inv-loop μ-loop
 shared-slice-read-if1 c = omega arith
@@ -34,7 +34,7 @@ loop-less c = omega arith
 loop-again : tie.Need-loop-again Inv-loop μ-loop
 loop-again c =
     let d = c .before .before .before .loop in
-    (omega arith, λ l a b. ⊎-elim (λ (e : d .k - 1 ≡ l). rw (← e) (c .if1 .left)) (λ h. d .inv .1 l (omega arith) b) (eq-or-lt-of-le {m = l} a))
+    (omega arith, λ l a b. ⊎-elim (λ (e : d .q - 1 ≡ l). rw (← e) (c .if1 .left)) (λ h. d .inv .1 l (omega arith) b) (eq-or-lt-of-le {m = l} a))
 
 returns-2 : tie.Need-returns-2 Inv-loop μ-loop
 returns-2 c = record { there = inr refl; highest = λ l a b. c .before .loop .inv .1 l (omega arith) b }
@@ -46,7 +46,7 @@ last-marked-spec =
     Inv-loop
     μ-loop
     loop-holds
-    sub-k
+    sub-q
     shared-slice-read-if1
     returns
     loop-less
