@@ -1,6 +1,6 @@
 -- `day::put_record` meets its contract: the sample is the file's. Assumes nothing.
 use borrow.Author.Needs.{needs}
-use mathlib.Core.Path.{refl, ap, _∙_}
+use mathlib.Core.Path.{refl, sym, ap, _∙_}
 use Rattle.record.specs.Record.{decodeOf}
 use Rattle.record.proofs.Marks.{mark-there}
 use Rattle.day.proofs.Records.{good-sample}
@@ -35,7 +35,8 @@ returns : tie.Need-returns
 returns c =
     let p = c .before .before .before .before .before .before .before .before .before .before .before .before .before .before .before .before .before .before .before .pre in
     let z = good-sample _ (p .0) _ (p .1) _ (c .before .before .before .before .before .before .before .before .before .before .before .before .before .before .decode .ensures .0 ∙ ap decodeOf (c .before .before .before .before .before .before .before .before .before .before .before .before .before .before .before .record-of .ensures .0)) in
-    (rw (z .0, z .1, c .before .before .before .before .before .before .before .before .before .before .before .before .before .mark-of .ensures .0, mark-there _ _ (p .1)) at (c .before .before .before .before .before .before .put .ensures), refl)
+    let m = sym (c .before .before .before .before .before .before .before .before .before .before .before .before .before .mark-of .ensures .0 ∙ mark-there _ _ (p .1)) in
+    (rw m (rw (z .0, z .1) at (c .before .before .before .before .before .before .put .ensures)), refl)
 
 pub put-record-spec : {M : Type 1} → statement M
 put-record-spec =

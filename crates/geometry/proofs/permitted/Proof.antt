@@ -22,7 +22,7 @@ judge-requires : tie.Need-judge-requires
 judge-requires c κs =
     let p = c .before .before .pre in
     let f = c .first-marked .ensures in
-    ((p .0 .across, p .0 .upward, omega arith, f .from, ⊎-elim (λ t. omega arith) (λ t. omega arith) (f .there), p .3), λ l a b. absurd (omega arith))
+    ((p .0 .across, p .0 .upward, omega arith, omega (arith, f .from), ⊎-elim (λ t. omega arith) (λ t. omega arith) (f .there), p .3), λ l a b. absurd (omega arith))
 
 enum-told : tie.Need-enum-told
 enum-told c = search needs
