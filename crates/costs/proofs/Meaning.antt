@@ -6,8 +6,8 @@ use mathlib.Core.List.{List, [], _∷_}
 use Prim.Native.Nat.{ℕ, zero, suc, _+_, _≤_, _<_}
 use native.Mathlib.Omega.{arith}
 use Rattle.refusal.specs.Check.{Decides}
-use Rattle.geometry.specs.Coordinate.{Ranged}
 use Rattle.geometry.specs.Samples.{Sample, Samples, store}
+use Rattle.geometry.specs.Sweep.{Ranged}
 use Rattle.geometry.proofs.Coordinate.{fewer-ranged}
 use Rattle.family.specs.Family.{value, Genuine}
 use Rattle.family.specs.Levels as Levels

@@ -15,12 +15,13 @@ use lib.ListN.{getD, set}
 use lib.Seq.{getD-set-other}
 use Rattle.refusal.specs.Check.{Decides}
 use Rattle.refusal.proofs.Plain.{decides-unique}
-use Rattle.geometry.specs.Coordinate.{InRange, Ranged}
+use Rattle.geometry.specs.Coordinate.{InRange}
 use Rattle.geometry.specs.declared.Verdict.{Verdict}
-use Rattle.geometry.specs.Mark.{Marked, noMarks}
+use Rattle.geometry.specs.Mark.{Marked}
 use Rattle.geometry.specs.Near.{Along}
 use Rattle.geometry.specs.Samples.{Sample, Samples, samples, store}
 use Rattle.geometry.specs.Spoiler.{Told, isYes}
+use Rattle.geometry.specs.Sweep.{Ranged, noMarks}
 use Rattle.geometry.proofs.Marks.{Unmarked, unmarked-says}
 use Rattle.geometry.proofs.Spoiler.{says-decides, permits-decided}
 use Rattle.geometry.proofs.Permits.{permits-wider, permits-adjacent, permits-same, permits-stops, Same}

@@ -14,8 +14,8 @@ use Rattle.refusal.specs.declared.Outcome.the-variants.{Done, Refused}
 use Rattle.refusal.specs.Number.{number, code}
 use Rattle.refusal.specs.Check.{First, allBelow}
 use Rattle.refusal.proofs.Rows.{code-one, first-passed, first-same, numbered}
-use Rattle.geometry.specs.Coordinate.{Ranged}
 use Rattle.geometry.specs.Samples.{Samples}
+use Rattle.geometry.specs.Sweep.{Ranged}
 use Rattle.record.specs.Pause.{pauseLineOf}
 use Rattle.record.proofs.Marks.{mark-small}
 use Rattle.trace.specs.declared.Trace.{Trace}

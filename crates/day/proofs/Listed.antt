@@ -8,8 +8,9 @@ use lib.IntN.{ℤ, pos}
 use lib.ListN.{length, getD, length-append, List·getD-append}
 use lib.Seq.{getD-at}
 use Rattle.refusal.specs.Check.{Decides}
-use Rattle.geometry.specs.Coordinate.{InRange, Ranged}
+use Rattle.geometry.specs.Coordinate.{InRange}
 use Rattle.geometry.specs.Samples.{Samples}
+use Rattle.geometry.specs.Sweep.{Ranged}
 use Rattle.geometry.proofs.Permits.{Same}
 use Rattle.family.specs.Levels.{Chosen, levels}
 use Rattle.family.proofs.Choices.{chosen-levels}

@@ -12,8 +12,9 @@ use mir.Val.{toZ, ofZ}
 use mir.Facts.{toZ-ofZ}
 use Rattle.refusal.specs.Check.{Decides}
 use Rattle.refusal.proofs.Plain.{by-test, all-decided}
-use Rattle.geometry.specs.Coordinate.{Coord, InRange, Ranged, coordinateOk, coordinatesOk}
+use Rattle.geometry.specs.Coordinate.{Coord, InRange, coordinateOk, coordinatesOk}
 use Rattle.geometry.specs.Samples.{Samples}
+use Rattle.geometry.specs.Sweep.{Ranged}
 
 pub coordinate-decided : (z : ℤ) → Decides (Coord z) (coordinateOk z)
 unfolding coordinateOk

@@ -1,5 +1,5 @@
--- The tests of marks; and the marks of a stretch apart from its geometry: where none lies between, distances alone decide; the lowest marked sample spoils where none before it lies too far;
--- and no stretch passes over a marked one. Assumes nothing.
+-- The tests of marks decide what they are named for; and the marks of a stretch apart from its distances: where none lies between, distances alone decide, and the lowest
+-- marked sample spoils where none before it lies too far away. Assumes nothing.
 use mathlib.Core.Logic.{⊎-elim}
 use mathlib.Core.List.{List}
 use Prim.Native.Nat.{ℕ, _+_, _≤_, _<_}
@@ -9,10 +9,11 @@ use Rattle.refusal.specs.Check.{Decides}
 use Rattle.refusal.proofs.Plain.{by-order, all-decided}
 use Rattle.geometry.specs.declared.Verdict.{Verdict}
 use Rattle.geometry.specs.declared.Verdict.the-variants.{Yes, No}
-use Rattle.geometry.specs.Mark.{Mark, Marked, FirstMarked, markOk, marksOk}
+use Rattle.geometry.specs.Mark.{Mark, Marked, markOk, marksOk}
 use Rattle.geometry.specs.Near.{Along, Passable, Permitted}
 use Rattle.geometry.specs.Samples.{Samples}
 use Rattle.geometry.specs.Spoiler.{Clear, Spoiler, Told, Says}
+use Rattle.geometry.specs.Sweep.{FirstMarked}
 
 -- the tests of marks decide what they are named for
 pub mark-decided : (mark : ℕ) → Decides (Mark mark) (markOk mark)

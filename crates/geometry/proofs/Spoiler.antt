@@ -14,12 +14,12 @@ use Rattle.refusal.specs.Check.{Decides}
 use Rattle.refusal.proofs.Plain.{yes-decides, no-decides, not-decided, by-equal, both-decided}
 use Rattle.geometry.specs.declared.Verdict.{Verdict}
 use Rattle.geometry.specs.declared.Verdict.the-variants.{Yes, No}
-use Rattle.geometry.specs.Coordinate.{Ranged}
 use Rattle.geometry.specs.Mark.{Marked, marked}
 use Rattle.geometry.specs.Near.{Passable, Permitted}
 use Rattle.geometry.specs.Samples.{Samples}
 use Rattle.geometry.specs.Shifted.{NearAt}
 use Rattle.geometry.specs.Spoiler.{Clear, Spoiler, Told, Says, isYes}
+use Rattle.geometry.specs.Sweep.{Ranged}
 use Rattle.geometry.specs.Test.{moved, lowest, judged, permits}
 use Rattle.geometry.proofs.Decide.{by-cond, reaches-decided}
 use Rattle.geometry.proofs.Link.{decides-near}

@@ -6,7 +6,6 @@ use lib.IntN.{ℤ, pos, negsuc, natAbs}
 use lib.ListN.{getD, length}
 use lib.Signed.{leZ}
 use Rattle.refusal.specs.Check.{allBelow}
-use Rattle.geometry.specs.Samples.{Samples}
 
 -- from -16,384 to 16,384
 pub record Coord (z : ℤ) : Type 0 where
@@ -16,11 +15,6 @@ pub record Coord (z : ℤ) : Type 0 where
 pub record InRange (xs : List ℤ) (n : ℕ) : Type 0 where
   pub held : n ≤ length xs
   pub each : (k : ℕ) → k < n → Coord (getD xs k (pos 0))
-
--- and those of the first n samples, across and up
-pub record Ranged (xs : Samples) (n : ℕ) : Type 0 where
-  pub across : InRange (xs .across) n
-  pub upward : InRange (xs .upward) n
 
 -- the tests (`negsuc 16383` is -16,384)
 unfoldable pub coordinateOk : ℤ → Bool

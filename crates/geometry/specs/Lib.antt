@@ -4,5 +4,6 @@ pub mod Near
 pub mod Samples
 pub mod Shifted
 pub mod Spoiler
+pub mod Sweep
 pub mod Test
 pub mod Way

@@ -1,9 +1,8 @@
 -- The mark of a sample, in plain words and as the tests of checks 5 and 6; and which samples are marked. Assumes nothing.
-use Prim.Native.Nat.{ℕ, _≤_, _<_}
+use Prim.Native.Nat.{ℕ, _≤_}
 use mathlib.Core.Path.{_≡_}
-use mathlib.Core.Logic.{_⊎_}
 use mathlib.Core.Bool.{Bool}
-use mathlib.Core.List.{List, []}
+use mathlib.Core.List.{List}
 use lib.Dec.{leb, eqb}
 use lib.ListN.{getD}
 use Rattle.refusal.specs.Check.{allBelow}
@@ -15,21 +14,6 @@ Mark mark = mark ≤ 1
 -- sample k is marked
 abbrev pub Marked : List ℕ → ℕ → Type 0
 Marked ms k = getD ms k 0 ≡ 1
-
--- no sample is
-abbrev pub noMarks : List ℕ
-noMarks = []
-
--- r is the lowest marked sample of those from a on and below j, or j where there is none
-pub record FirstMarked (ms : List ℕ) (a j r : ℕ) : Type 0 where
-  pub there : ((r < j) × Marked ms r) ⊎ (r ≡ j)
-  pub from : a ≤ r
-  pub lowest : (k : ℕ) → a ≤ k → k < r → Marked ms k → ⊥
-
--- r is the highest marked sample below j, or 0 where there is none
-pub record LastMarked (ms : List ℕ) (j r : ℕ) : Type 0 where
-  pub there : ((r < j) × Marked ms r) ⊎ (r ≡ 0)
-  pub highest : (k : ℕ) → r < k → k < j → Marked ms k → ⊥
 
 -- the tests
 unfoldable pub markOk : ℕ → Bool

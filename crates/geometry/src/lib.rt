@@ -5,11 +5,12 @@ ghost use lib.IntN.{pos, natAbs, _-ℤ_};
 ghost use lib.ListN.{length, getD};
 ghost use Rattle.refusal.specs.Check.{Decides};
 ghost use Rattle.algebra.specs.Parts.{sq};
-ghost use Rattle.geometry.specs.Coordinate.{Coord, InRange, Ranged, coordinateOk, coordinatesOk};
-ghost use Rattle.geometry.specs.Mark.{FirstMarked, LastMarked, markOk, marksOk};
+ghost use Rattle.geometry.specs.Coordinate.{Coord, InRange, coordinateOk, coordinatesOk};
+ghost use Rattle.geometry.specs.Mark.{markOk, marksOk};
 ghost use Rattle.geometry.specs.Near.{Along};
 ghost use Rattle.geometry.specs.Samples.{samples};
 ghost use Rattle.geometry.specs.Spoiler.{Clear, Told, Says};
+ghost use Rattle.geometry.specs.Sweep.{Ranged, FirstMarked, LastMarked};
 ghost use Rattle.geometry.specs.Way.{Way, NearBy};
 
 // The range of a coordinate.

@@ -9,9 +9,10 @@ use lib.IntN.{ℤ}
 use lib.ListN.{length, getD, take, replicate, length-take, List·getD-append, List·getD-eq-default}
 use lib.Seq.{getD-take, getD-set-same, getD-set-other}
 use Rattle.refusal.proofs.Rows.{by-outcome}
-use Rattle.geometry.specs.Coordinate.{InRange, Ranged}
+use Rattle.geometry.specs.Coordinate.{InRange}
 use Rattle.geometry.specs.Mark.{Mark}
 use Rattle.geometry.specs.Samples.{Sample}
+use Rattle.geometry.specs.Sweep.{Ranged}
 use Rattle.costs.proofs.Meaning.{put-costs}
 use Rattle.trace.specs.declared.Trace.{Trace}
 use Rattle.trace.specs.declared.Changed.{Changed}

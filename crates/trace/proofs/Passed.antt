@@ -13,8 +13,9 @@ use lib.ListN.{length, length-set, getD, set}
 use lib.Seq.{getD-set-same, getD-set-other}
 use Rattle.refusal.specs.Check.{Decides, First}
 use Rattle.refusal.proofs.Rows.{Reached, reached-none, reached-as, reached-next, reached-more, reached-unless}
-use Rattle.geometry.specs.Coordinate.{Coord, InRange, Ranged}
+use Rattle.geometry.specs.Coordinate.{Coord, InRange}
 use Rattle.geometry.specs.Samples.{Sample, Samples}
+use Rattle.geometry.specs.Sweep.{Ranged}
 use Rattle.costs.specs.Walk.{Rising}
 use Rattle.costs.proofs.Exit.{put-steps}
 use Rattle.trace.specs.declared.Trace.{Trace}

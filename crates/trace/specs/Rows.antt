@@ -10,9 +10,10 @@ use Rattle.refusal.specs.declared.Refusal.the-variants.{Setup, Tolerance, Buffe
 use Rattle.refusal.specs.declared.Outcome.{Outcome}
 use Rattle.refusal.specs.declared.Outcome.the-variants.{Done}
 use Rattle.refusal.specs.Check.{unless, andThen, allBelow, from-to}
-use Rattle.geometry.specs.Coordinate.{Ranged, coordinateOk, coordinatesOk}
+use Rattle.geometry.specs.Coordinate.{coordinateOk, coordinatesOk}
 use Rattle.geometry.specs.Mark.{markOk, marksOk}
 use Rattle.geometry.specs.Samples.{Sample, Samples, store}
+use Rattle.geometry.specs.Sweep.{Ranged}
 use Rattle.table.specs.Check.{cellsOk}
 use Rattle.costs.specs.Costs.{Named, named}
 use Rattle.costs.specs.Walk.{perm, Rising, LowSteps, Rewritten}

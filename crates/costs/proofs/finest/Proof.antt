@@ -7,11 +7,11 @@ use Prim.Native.Nat.{ℕ, _+_, _-_, _≤_, _<_}
 use native.Mathlib.Omega.{arith}
 use borrow.Author.Needs.{needs}
 use lib.ListN.{getD}
-use Rattle.geometry.specs.Mark.{noMarks}
 use Rattle.geometry.specs.Near.{Along}
 use Rattle.geometry.specs.Spoiler.{Clear, isYes}
 use Rattle.geometry.proofs.Permits.{along-wider}
 use Rattle.geometry.specs.Samples.{samples}
+use Rattle.geometry.specs.Sweep.{noMarks}
 use Rattle.costs.specs.Walk.{perm}
 use Rattle.costs.proofs.Perm.{perm-judged, rising, perm-higher, finest-is}
 use Rattle.costs.proofs.finest.Statement.{statement}
