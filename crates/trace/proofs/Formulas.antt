@@ -11,7 +11,7 @@ use Rattle.trace.specs.Calls.{Buffers, Put, PutGives}
 use Rattle.trace.proofs.Held.{held-corrected, held-added}
 
 module _ (a : Trace) (b : Buffers) (v : ℕ) (x : Sample) (r : Changed) (e : Buffers) (G : PutGives a b v x r e) (d : r .outcome ≡ Done) where
-  -- below n it is a correction: sample v is new, and as many are held
+  -- below n it is a correction: sample v is another, and as many are held
   pub put-corrects : v < a .held → Put a b v (a .held) x r e
   put-corrects h = subst (λ n. Put a b v n x r e) (held-corrected (a .held) v h) (G .done d)
 

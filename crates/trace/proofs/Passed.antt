@@ -25,7 +25,7 @@ use Rattle.trace.specs.Rows.{Ready}
 use Rattle.trace.proofs.Decided.{setup-decided, tolerances-decided, lent-samples, lent-table, lent-ranks, samples-decided, stored-decided, sample-decided, not-both, there}
 use Rattle.trace.proofs.Held.{held-there, held-room, held-others}
 
--- checks 1 to 5 of the setup and the coordinates
+-- checks 1 to 5 of the setup and the samples
 pub record Passed (a : Trace) (xs : Samples) : Type 0 where
   pub sized : Sized (a .levels) (a .capacity)
   pub tolerances : Tolerances (a .levels) (a .tolerances)
