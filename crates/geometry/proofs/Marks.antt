@@ -3,6 +3,7 @@
 use mathlib.Core.Logic.{⊎-elim}
 use mathlib.Core.List.{List}
 use Prim.Native.Nat.{ℕ, _+_, _≤_, _<_}
+use native.Mathlib.Nat.{le-refl}
 use native.Mathlib.Omega.{arith}
 use lib.ListN.{getD}
 use Rattle.refusal.specs.Check.{Decides}
@@ -32,28 +33,27 @@ module _ (xs : Samples) (i j e : ℕ) where
   pub passable-clear : {k : ℕ} → Unmarked (xs .marks) i k → Clear (Along (xs .across) (xs .upward) i j e) i k → Clear (Passable xs i j e) i k
   passable-clear u c l a b = (u l a b, c l a b)
 
-  -- a verdict by distance is one on the stretch
-  pub unmarked-says : Unmarked (xs .marks) i j → (v : Verdict) → Told (Along (xs .across) (xs .upward) i j e) i j v → Says xs i j e v
-  unmarked-says u Yes c = record { each = passable-clear u c }
-  unmarked-says u (No k) s = record {
+  -- the lowest sample before r that lies too far away is the spoiler, where none before r is marked
+  far-spoils : {r k : ℕ} → r ≤ j → Unmarked (xs .marks) i r → Spoiler (Along (xs .across) (xs .upward) i j e) i r k → Spoiler (Passable xs i j e) i j k
+  far-spoils h u s = record {
     after = s .after;
-    before = s .before;
+    before = omega (arith, s .before);
     spoils = λ p. s .spoils (p .1);
     lowest = passable-clear (λ l a b. u l a (omega (arith, s .before))) (s .lowest);
   }
+
+  -- so where none is marked a verdict by distance is one on the stretch
+  pub unmarked-says : Unmarked (xs .marks) i j → (v : Verdict) → Told (Along (xs .across) (xs .upward) i j e) i j v → Says xs i j e v
+  unmarked-says u Yes c = record { each = passable-clear u c }
+  unmarked-says u (No k) s = far-spoils (le-refl j) u s
 
   module _ {r : ℕ} (f : FirstMarked (xs .marks) (i + 1) j r) where
     before : Unmarked (xs .marks) i r
     before l a b = f .lowest l (omega arith) b
 
     -- what is said of the samples before the lowest marked one, where it is no, is said of the stretch
-    pub far-first : i < j → (k : ℕ) → Spoiler (Along (xs .across) (xs .upward) i j e) i r k → Spoiler (Passable xs i j e) i j k
-    far-first o k s = record {
-      after = s .after;
-      before = ⊎-elim (λ t. omega (arith, s .before)) (λ t. omega (arith, s .before)) (f .there);
-      spoils = λ p. s .spoils (p .1);
-      lowest = passable-clear (λ l a b. before l a (omega (arith, s .before))) (s .lowest);
-    }
+    pub far-first : {k : ℕ} → Spoiler (Along (xs .across) (xs .upward) i j e) i r k → Spoiler (Passable xs i j e) i j k
+    far-first s = far-spoils (⊎-elim (λ t. omega arith) (λ t. omega arith) (f .there)) before s
 
     -- where it is yes, that one spoils
     pub marked-first : r < j → Clear (Along (xs .across) (xs .upward) i j e) i r → Spoiler (Passable xs i j e) i j r

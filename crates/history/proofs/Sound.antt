@@ -3,11 +3,11 @@ use mathlib.Core.Path.{_≡_, refl, sym, subst, _∙_}
 use mathlib.Core.Logic.{_⊎_, inl, inr, ⊎-elim}
 use mathlib.Core.List.{List}
 use Prim.Native.Nat.{ℕ, _+_, _-_, _≤_, _<_, zero-le}
-use native.Mathlib.Decide.{decLt, ℕ-discrete}
+use native.Mathlib.Decide.{decLt}
 use native.Mathlib.Omega.{arith}
 use lib.IntN.{ℤ}
 use lib.ListN.{length, getD, take, replicate, length-take, List·getD-append, List·getD-eq-default}
-use lib.Seq.{getD-take, getD-set-same, getD-set-other}
+use lib.Seq.{getD-take}
 use Rattle.refusal.proofs.Rows.{by-outcome}
 use Rattle.geometry.specs.Coordinate.{InRange}
 use Rattle.geometry.specs.Mark.{Mark}
@@ -18,7 +18,7 @@ use Rattle.trace.specs.declared.Trace.{Trace}
 use Rattle.trace.specs.declared.Changed.{Changed}
 use Rattle.trace.specs.Numbers.{Sized, Tolerances, PutNumber}
 use Rattle.trace.specs.Calls.{Buffers, heldWith, Put, NotPut, kept}
-use Rattle.trace.proofs.Passed.{start-passed, put-passed}
+use Rattle.trace.proofs.Passed.{start-passed, put-passed, set-each}
 use Rattle.trace.proofs.Held.{held-others}
 use Rattle.trace.proofs.Calls.{put-able, put-rewritten, buffers-is}
 use Rattle.history.specs.Run.{State, Call, Answer, Step}
@@ -101,10 +101,7 @@ put-sound s e v x r S h P t =
       small = z .2;
       held = z .4;
       ranged = R .ranged;
-      marks = λ q l. elim (ℕ-discrete q v) [
-        | yes e ↦ rw (e, getD-set-same (b .samples .marks) v (x .mark) 0 (omega (arith, R .marks))) (p .2 .2)
-        | no d ↦ rw (getD-set-other (b .samples .marks) v q (x .mark) 0 d) (S .marks q (others q l d))
-      ];
+      marks = set-each 0 Mark (b .samples .marks) v _ (x .mark) (z .3) (R .marks) (p .2 .2) (λ q l d. S .marks q (others q l d));
       costs = put-costs (a .capacity) (b .samples) (a .tolerances) x (a .levels) v (a .held) _ (b .table) (e .lent .table) (S .few) (S .small) (S .held) (S .ranged) others (z .4) (R .ranged)
           (put-rewritten A P) (S .costs);
       setup = inr (p .0 .sized, p .0 .tolerances);

@@ -135,15 +135,17 @@ in-range P = record {
   upward = record { held = le-trans (P .held) (P .lent .1); each = λ q l. P .stored q l .1 };
 }
 
+-- what holds of a new value and of the others holds of each place
+pub set-each : {A : Type 0} (z : A) (P : A → Type 0) (s : List A) (v n : ℕ) (x : A) → v < n → n ≤ length s → P x → ((q : ℕ) → q < n → (q ≡ v → ⊥) → P (getD s q z))
+    → (q : ℕ) → q < n → P (getD (set s v x) q z)
+set-each z P s v n x o h c others q l = elim (ℕ-discrete q v) [
+  | yes e ↦ rw (e, getD-set-same s v x z (omega arith)) c
+  | no d ↦ rw (getD-set-other s v q x z d) (others q l d)
+]
+
 -- a coordinate in range, put among others
 put-range : (xs : List ℤ) (v n : ℕ) (x : ℤ) → v < n → n ≤ length xs → Coord x → ((q : ℕ) → q < n → (q ≡ v → ⊥) → Coord (getD xs q (pos 0))) → InRange (set xs v x) n
-put-range xs v n x o h c others = record { held = rw (length-set xs v x) h; each = each }
-  where
-    each : (q : ℕ) → q < n → Coord (getD (set xs v x) q (pos 0))
-    each q l = elim (ℕ-discrete q v) [
-      | yes e ↦ rw (e, getD-set-same xs v x (pos 0) (omega arith)) c
-      | no d ↦ rw (getD-set-other xs v q x (pos 0) d) (others q l d)
-    ]
+put-range xs v n x o h c others = record { held = rw (length-set xs v x) h; each = set-each (pos 0) Coord xs v n x o h c others }
 
 -- what a change of a sample asks
 pub put-ready : (a : Trace) (xs : Samples) (t : List ℕ) (v : ℕ) (x : Sample) → PutNumber a xs t v x 0 → Ready a xs t v (heldWith (a .held) v) x

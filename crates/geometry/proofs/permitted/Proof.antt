@@ -32,7 +32,7 @@ returns : tie.Need-returns
 returns c =
     let a = c .before .before .before .before .before .args in
     let g = c .enum-told2 .given in
-    rw (g .1) (far-first (samples (a .xs .now) (a .ys .now) (a .marks .now)) (a .i) (a .j) (a .e) (c .before .before .before .first-marked .ensures) (omega arith) (g .0 .0) (rw (g .1) at (c .before .before .judge .ensures)))
+    rw (g .1) (far-first (samples (a .xs .now) (a .ys .now) (a .marks .now)) (a .i) (a .j) (a .e) (c .before .before .before .first-marked .ensures) (rw (g .1) at (c .before .before .judge .ensures)))
 
 returns-2 : tie.Need-returns-2
 returns-2 c =
