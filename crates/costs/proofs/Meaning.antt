@@ -2,10 +2,11 @@
 -- the cost of its stretch, it is again after a sample is put. Assumes nothing.
 use mathlib.Core.Path.{_≡_, refl}
 use mathlib.Core.Logic.{_↔_, ⊎-elim}
-use mathlib.Core.List.{List, [], _∷_}
+use mathlib.Core.List.{List, [], _∷_, List·Memᴰ as In}
 use Prim.Native.Nat.{ℕ, zero, suc, _+_, _≤_, _<_}
 use native.Mathlib.Omega.{arith}
 use Rattle.refusal.specs.Check.{Decides}
+use Rattle.geometry.specs.Mark.{Marked}
 use Rattle.geometry.specs.Samples.{Sample, Samples, store}
 use Rattle.geometry.specs.Sweep.{Ranged}
 use Rattle.geometry.proofs.Coordinate.{fewer-ranged}
@@ -15,6 +16,8 @@ use Rattle.family.specs.Fine.{Fine}
 use Rattle.family.specs.Path.{done, step, Written}
 use Rattle.family.proofs.Checks.{room as fits, fine-near, checked-most}
 use Rattle.family.proofs.Foreign.{value-written, written-one}
+use Rattle.geometry.proofs.Permits.{marked-stops}
+use Rattle.family.proofs.Kept.{family-holds}
 use Rattle.family.proofs.Local.{Without, with?}
 use Rattle.family.proofs.Promise.{genuine-meant}
 use Rattle.table.specs.Table.{cell}
@@ -31,6 +34,11 @@ module _ (xs : Samples) (tols : List ℕ) (m n : ℕ) (ranged : Ranged xs n) whe
   -- a table is genuine exactly when every cell is its cost
   pub genuine-is : m ≤ 16 → n ≤ 256 → (c : ℕ → ℕ → ℕ → ℕ) → Genuine (perm xs tols) c m n ↔ Levels.Costs (Permit xs tols) c m n
   genuine-is a b c = genuine-meant (Permit xs tols) (perm xs tols) (perm-adjacent xs tols) m n (fits m n a b) permissions c
+
+-- in every family of the samples a marked one is in every level, since no permitted stretch passes over it
+pub marked-held : (xs : Samples) (tols : List ℕ) {k i j : ℕ} {L : ℕ → List ℕ} (q : ℕ) → Marked (xs .marks) q → Levels.Family (Permit xs tols) k i j L → i ≤ q → q ≤ j
+    → (ℓ : ℕ) → 1 ≤ ℓ → ℓ ≤ k → In q (L ℓ)
+marked-held xs tols q m = family-holds q (λ ℓ x y a b p. marked-stops m a b p)
 
 -- what is written into the cell of neighbours is at most its level, where the one below is
 written-near : (P : ℕ → ℕ → ℕ → Type 0) (c : ℕ → ℕ → ℕ → ℕ) (k x w : ℕ) → suc k ≤ 16 → P (suc k) x (suc x) → (1 ≤ k → c k x (suc x) ≤ k)

@@ -2,24 +2,22 @@
 use mathlib.Core.Path.{_≡_, refl, sym, subst}
 use mathlib.Core.Logic.{⊎-elim}
 use mathlib.Core.Bool.{true, false, _&&_, _||_, true≢false}
-use mathlib.Core.List.{List, List·Memᴰ as In}
-use Prim.Native.Nat.{ℕ, suc, _-_, _≤_, zero-le}
+use mathlib.Core.List.{List}
+use Prim.Native.Nat.{ℕ, _-_, _≤_, zero-le}
 use native.Mathlib.Nat.{le-refl, le-antisymm}
 use native.Mathlib.Omega.{arith}
 use lib.Dec.{eqb}
 use Rattle.refusal.specs.declared.Outcome.the-variants.{Done}
 use Rattle.refusal.proofs.Rows.{code-one, first-taken, first-passed, first-has}
-use Rattle.geometry.proofs.Permits.{marked-stops}
 use Rattle.family.specs.Levels as Levels
 use Rattle.family.proofs.Checks.{room}
 use Rattle.family.proofs.Costs.{genuine-checked}
-use Rattle.family.proofs.Kept.{family-holds}
-use Rattle.family.proofs.Lists.{in-numbers}
+use Rattle.family.proofs.Levels.{in-levels}
 use Rattle.table.specs.Table.{cell}
 use Rattle.costs.specs.Costs.{Permit}
 use Rattle.costs.specs.Walk.{perm}
 use Rattle.costs.proofs.Perm.{perm-adjacent}
-use Rattle.costs.proofs.Meaning.{permissions, genuine-is}
+use Rattle.costs.proofs.Meaning.{permissions, genuine-is, marked-held}
 use Rattle.readout.specs.Read.{rank}
 use Rattle.readout.proofs.Meaning.{read-chosen, ranks-read}
 use Rattle.trace.specs.declared.Levels.{Levels}
@@ -52,11 +50,7 @@ sound-shown {s} {e} {r} S (reads G t) h =
 -- ---- marks
 -- in every family of a state's samples, whatever else holds of the state
 pub family-keeps : (s : State) (L : ℕ → List ℕ) → Levels.Family (Permitted s) (s .trace .levels) 0 (s .trace .held - 1) L → MarksKept s L
-family-keeps s L F q h m = family-holds q (λ ℓ x y a b p. marked-stops m a b p) F zero-le (omega arith)
-
--- what is in a level of ranks has so high a rank
-in-level : (r : ℕ → ℕ) (ℓ i j x : ℕ) → In x (Levels.levels r i j ℓ) → ℓ ≤ r x
-in-level r ℓ i j x h = unfold Levels.levels in in-numbers r ℓ (suc (j - i)) i x h .2
+family-keeps s L F q h m = marked-held (s .lent .samples) (s .trace .tolerances) q m F zero-le (omega arith)
 
 -- and so by the ranks that are read
 pub sound-marked : {s e : State} {r : Levels} → Sound s → Step s e read (levels r) → answered (levels r) ≡ 0 → MarksRanked e
@@ -67,7 +61,7 @@ sound-marked {s} {e} {r} S (reads G t) h q o m =
     let one : 1 ≤ e .trace .levels = rw k (p .0 .sized .0) in
     let most : rank (e .ranks) q ≤ e .trace .levels = rw k (G .done d .best .highest q (rw k at o)) in
     let all = family-keeps e (levelsOf e) (sound-shown S (reads G t) h .chosen .minimal .family) q o m (e .trace .levels) one (le-refl _) in
-    le-antisymm most (in-level (rank (e .ranks)) (e .trace .levels) 0 (e .trace .held - 1) q all)
+    le-antisymm most (in-levels (rank (e .ranks)) (e .trace .levels) 0 (e .trace .held - 1) q zero-le all .2)
 
 -- ---- numbers
 module _ (s : State) (S : Sound s) where

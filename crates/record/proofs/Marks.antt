@@ -9,6 +9,7 @@ use lib.Dec.{ltb}
 use lib.ListN.{length}
 use borrow.Author.Tests.{lt-ltb, le-ltb}
 use Rattle.refusal.specs.Check.{Decides}
+use Rattle.geometry.proofs.Decide.{by-cond}
 use Rattle.record.specs.Record.{boot, edition}
 use Rattle.record.specs.Restart.{restarted, markAt, markOf}
 use Rattle.record.specs.Plain.{Restarted}
@@ -23,14 +24,10 @@ unfolding markAt
 mark-after s zero h = absurd (h refl)
 mark-after s (suc n) h = let e : n ≡ suc n - 1 = omega arith in ap (λ (k : ℕ). cond (restarted s (16 * k) (16 * suc n)) 1 0) e
 
-by-cond : (t : Bool) → _≤_ (cond t 1 0) 1
-by-cond true = omega arith
-by-cond false = omega arith
-
 pub mark-small : (s : List ℕ) (n : ℕ) → markAt s n ≤ 1
 unfolding markAt
 mark-small s zero = omega arith
-mark-small s (suc n) = by-cond (restarted s (16 * n) (16 * suc n))
+mark-small s (suc n) = by-cond (λ (k : ℕ). k ≤ 1) (restarted s (16 * n) (16 * suc n)) (λ t. omega arith) (λ t. omega arith)
 
 one-exactly : {P : Type 0} (t : Bool) → Decides P t → _≡_ {A = ℕ} (cond t 1 0) 1 ↔ P
 one-exactly true d = (λ e. d .right refl, λ p. refl)
@@ -54,11 +51,7 @@ mark-there s i h = simp (lt-ltb i (length s / 16) h)
 
 pub mark-of-first : (s : List ℕ) (i : ℕ) → i ≡ 0 → markOf s i ≡ 0
 unfolding markOf
-mark-of-first s i e = rw (mark-first s i e) (none (ltb i (length s / 16)))
-  where
-    none : (t : Bool) → _≡_ {A = ℕ} (cond t 0 0) 0
-    none true = refl
-    none false = refl
+mark-of-first s i e = by-cond (λ (k : ℕ). k ≡ 0) (ltb i (length s / 16)) (λ t. mark-first s i e) (λ t. refl)
 
 pub mark-absent : (s : List ℕ) (i : ℕ) → length s / 16 ≤ i → markOf s i ≡ 0
 unfolding markOf

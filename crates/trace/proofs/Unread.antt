@@ -118,12 +118,12 @@ module _ {m n : ℕ} {xs us : Samples} (tols tols′ : List ℕ) (agree : Agree 
 
 -- ---- put
 -- a place set anew, where all others were among the n held
-set-alike : {A : Type 0} {none : A} {n o v : ℕ} {s u : List A} (x : A) → AlikePlaces none n s u → v < length s → Others v n o → AlikePlaces none o (set s v x) (set u v x)
-set-alike {none = none} {v = v} {s = s} {u = u} x X h held = record {
+set-alike : {A : Type 0} {z : A} {n o v : ℕ} {s u : List A} (x : A) → AlikePlaces z n s u → v < length s → Others v n o → AlikePlaces z o (set s v x) (set u v x)
+set-alike {z = z} {v = v} {s = s} {u = u} x X h held = record {
   length = length-set s v x ∙ X .length ∙ sym (length-set u v x);
   each = λ q l. elim (ℕ-discrete q v) [
-    | yes e ↦ rw (e, getD-set-same s v x none h, getD-set-same u v x none (omega (arith, X .length)))
-    | no e ↦ getD-set-other s v q x none e ∙ X .each q (held q l e) ∙ sym (getD-set-other u v q x none e)
+    | yes e ↦ rw (e, getD-set-same s v x z h, getD-set-same u v x z (omega (arith, X .length)))
+    | no e ↦ getD-set-other s v q x z e ∙ X .each q (held q l e) ∙ sym (getD-set-other u v q x z e)
   ];
 }
 

@@ -18,9 +18,9 @@ pub record AlikeTraces (a c : Trace) : Type 0 where
   pub tolerances : (l : ℕ) → l < a .levels → getD (a .tolerances) l 0 ≡ getD (c .tolerances) l 0
 
 -- buffers of one length with the same first n places
-pub record AlikePlaces {A : Type 0} (none : A) (n : ℕ) (s u : List A) : Type 0 where
+pub record AlikePlaces {A : Type 0} (z : A) (n : ℕ) (s u : List A) : Type 0 where
   pub length : length s ≡ length u
-  pub each : (q : ℕ) → q < n → getD s q none ≡ getD u q none
+  pub each : (q : ℕ) → q < n → getD s q z ≡ getD u q z
 
 -- those of coordinates and marks
 pub record AlikeSamples (n : ℕ) (xs us : Samples) : Type 0 where
