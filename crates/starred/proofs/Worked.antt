@@ -28,7 +28,7 @@ use Rattle.costs.proofs.Perm.{perm-adjacent}
 use Rattle.costs.proofs.Meaning.{permissions}
 use Rattle.trace.specs.Numbers.{ReadNumber}
 use Rattle.trace.proofs.Numbers.{read-number}
-use Rattle.trace.proofs.Passed.{Passed, PassedTable}
+use Rattle.trace.specs.Rows.{Passed, PassedTable}
 use Rattle.trace.proofs.Exactly.{read-rows}
 use Rattle.starred.specs.Cases.{buffered, PermitOf, listed, Ranked, Case, permitted, not-permitted, serves, ranked, costs, two-samples, one-sample, paused, Holds, All}
 

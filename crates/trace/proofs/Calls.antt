@@ -3,25 +3,27 @@ use mathlib.Core.Path.{_≡_, refl, sym, ap, _∙_}
 use mathlib.Core.List.{List}
 use Prim.Native.Nat.{ℕ, _≤_, _<_}
 use native.Mathlib.Omega.{arith}
+use lib.ListN.{length-set}
 use Rattle.refusal.specs.declared.Refusal.{Refusal}
 use Rattle.refusal.specs.declared.Outcome.{Outcome}
 use Rattle.refusal.specs.declared.Outcome.the-variants.{Done, Refused}
 use Rattle.refusal.specs.Number.{code}
 use Rattle.refusal.proofs.Rows.{numbered}
+use Rattle.geometry.specs.Mark.{Mark}
 use Rattle.geometry.specs.Samples.{Sample, Samples, store}
 use Rattle.family.specs.Fine.{Fine}
 use Rattle.family.proofs.Local.{Without}
 use Rattle.table.specs.Table.{cell}
 use Rattle.costs.specs.Costs.{Named}
 use Rattle.costs.specs.Walk.{perm, Rewritten}
-use Rattle.costs.proofs.Exit.{held-end}
+use Rattle.costs.proofs.Exit.{held-end, put-checked}
 use Rattle.trace.specs.declared.Trace.{Trace}
 use Rattle.trace.specs.declared.Changed.{Changed}
 use Rattle.trace.specs.Numbers.{PutNumber}
 use Rattle.trace.specs.Calls.{Buffers, buffers, heldWith, Put, PutGives}
-use Rattle.trace.specs.Rows.{Ready, Changes}
+use Rattle.trace.specs.Rows.{Passed, PassedTable, Ready, Changes}
 use Rattle.trace.proofs.Held.{held-others}
-use Rattle.trace.proofs.Passed.{put-passed, put-ready}
+use Rattle.trace.proofs.Passed.{put-passed, put-ready, set-each}
 use Rattle.costs.proofs.Meaning.{rewritten-cells, cells-rewritten}
 
 -- no call is both carried out and refused
@@ -78,3 +80,34 @@ put-rewritten {a} {b} {e} {v} {n} {x} A P =
     let z = R .sizes in
     cells-rewritten (a .capacity) (store (b .samples) v x) (a .tolerances) (a .levels) v n (b .table) (z .1) (omega arith) (z .4) (R .ranged) (A .fine)
     (e .table) (rw (P .samples) at (P .cells))
+
+-- a put leaves what checks 1 to 5 pass
+pub put-keeps : {a : Trace} {b e : Buffers} {v : ℕ} {x : Sample} {r : Changed} → PutGives a b v x r e → r .outcome ≡ Done → Passed (r .trace) (e .samples) × PassedTable (r .trace) (e .table)
+put-keeps {a} {b} {e} {v} {x} {r} G d =
+    let s = b .samples in
+    let p = put-passed a s (b .table) v x (rw d at (G .number)) in
+    let A = put-able a b v x (rw d at (G .number)) in
+    let z = A .ready .sizes in
+    let P = G .done d in
+    let others = held-others (a .held) v (p .3) in
+    rw (P .trace, P .samples) (
+      record {
+        sized = p .0 .sized;
+        tolerances = p .0 .tolerances;
+        lent = (
+          rw (length-set (s .across) v (x .across)) (p .0 .lent .0),
+          rw (length-set (s .upward) v (x .upward)) (p .0 .lent .1),
+          rw (length-set (s .marks) v (x .mark)) (p .0 .lent .2),
+        );
+        held = z .4;
+        stored = λ q l. (
+          A .ready .ranged .across .each q l,
+          A .ready .ranged .upward .each q l,
+          set-each 0 Mark (s .marks) v _ (x .mark) (z .3) (A .ready .marks) (p .2 .2) (λ q l d. p .0 .stored q (others q l d) .2) q l,
+        );
+      },
+      record {
+        room = rw (P .cells .same) (p .1 .room);
+        cells = put-checked (a .capacity) (a .levels) v (a .held) _ others (b .table) (store s v x) (a .tolerances) (e .table) (z .4) (z .1) (z .2) (p .1 .cells) (put-rewritten A P);
+      },
+    )

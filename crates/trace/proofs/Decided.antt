@@ -11,14 +11,15 @@ use lib.ListN.{length, getD}
 use borrow.Author.Tests.{leb-false, ltb-false}
 use Rattle.refusal.specs.Check.{Decides, from-to}
 use Rattle.refusal.proofs.Laws.{and-fails}
-use Rattle.refusal.proofs.Plain.{carry, by-less, by-order, both-decided, from-to-decided, all-decided}
+use Rattle.refusal.proofs.Plain.{carry, by-less, by-order, by-equal, both-decided, from-to-decided, all-decided}
 use Rattle.geometry.specs.Samples.{Sample, Samples}
 use Rattle.geometry.proofs.Coordinate.{coordinate-decided, coordinates-decided}
 use Rattle.geometry.proofs.Marks.{mark-decided, marks-decided}
 use Rattle.table.proofs.Check.{cells-decided}
 use Rattle.trace.specs.declared.Trace.{Trace}
 use Rattle.trace.specs.Numbers.{Sized, Tolerances, Valid, LentSamples, LentTable, StoredSamples, StoredCells, Absent}
-use Rattle.trace.specs.Rows.{before, toleranceOk, setupOk, tolerancesOk, lentOk, samplesOk, storedOk, sampleOk, stretchOk}
+use Rattle.trace.specs.Upload.{OneLength}
+use Rattle.trace.specs.Rows.{before, toleranceOk, setupOk, tolerancesOk, lentOk, samplesOk, storedOk, sampleOk, stretchOk, listsOk}
 
 pub setup-decided : (m N : ℕ) → Decides (Sized m N) (setupOk m N)
 unfolding setupOk
@@ -78,6 +79,10 @@ unfolding sampleOk
 sample-decided x =
     carry (λ p. (p .0, p .1 .0, p .1 .1)) (λ p. (p .0, (p .1, p .2)))
     (both-decided _ _ (coordinate-decided (x .across)) (both-decided _ _ (coordinate-decided (x .upward)) (mark-decided (x .mark))))
+
+pub lists-decided : (us : Samples) → Decides (OneLength us) (listsOk (length (us .across)) (length (us .upward)) (length (us .marks)))
+unfolding listsOk
+lists-decided us = both-decided _ _ (by-equal (length (us .across)) (length (us .upward))) (by-equal (length (us .across)) (length (us .marks)))
 
 -- ---- a stretch and a level that are there: the opposite of `Absent`
 abbrev pub There : Trace → ℕ → ℕ → ℕ → Type 0

@@ -12,7 +12,8 @@ use Rattle.geometry.specs.Samples.{Sample, Samples}
 use Rattle.trace.specs.declared.Trace.{Trace}
 use Rattle.trace.specs.Numbers.{Sized, Tolerances, Valid, LentSamples, LentTable, StoredSamples, StoredCells, Absent, Good, SetupNumber, TraceNumber, StartNumber, PutNumber, AskNumber, ReadNumber}
 use Rattle.trace.proofs.Decided.{lent-samples, lent-table, lent-ranks, samples-decided, stored-decided}
-use Rattle.trace.proofs.Passed.{Passed, PassedTable, past-1, past-2, past-3, past-4, samples-past, table-past, sample-past, ranks-past, put-past, ask-past, read-past}
+use Rattle.trace.specs.Rows.{Passed, PassedTable}
+use Rattle.trace.proofs.Passed.{past-1, past-2, past-3, past-4, samples-past, table-past, sample-past, ranks-past, put-past, ask-past, read-past}
 
 -- ---- 1 and 2, of every call
 pub record SetupRows (m N : ℕ) (tols : List ℕ) (k : ℕ) : Type 0 where

@@ -8,4 +8,5 @@ pub mod Calls
 pub mod Unique
 pub mod Exists
 pub mod Formulas
+pub mod Upload
 pub mod Unread

@@ -10,15 +10,16 @@ use lib.Dec.{leb, ltb, eqb}
 use lib.ListN.{length}
 use borrow.Author.Tests.{leb-true, leb-false, ltb-true, ltb-false, eqb-true, eqb-false}
 use Rattle.refusal.specs.declared.Refusal.the-variants.{Setup, Tolerance, Buffer, Held, Stored, Coordinate, Full, Missing, Few}
-use Rattle.refusal.specs.declared.Outcome.the-variants.{Done}
-use Rattle.refusal.specs.Number.{code}
+use Rattle.refusal.specs.declared.Refusal.{Refusal}
+use Rattle.refusal.specs.declared.Outcome.the-variants.{Done, Refused}
+use Rattle.refusal.specs.Number.{number, code}
 use Rattle.refusal.specs.Check.{unless, Decides, First}
 use Rattle.refusal.proofs.Laws.{then-done}
 use Rattle.refusal.proofs.Rows.{first-one, Row, test-row, unless-row, then-row, row-number}
 use Rattle.geometry.specs.Samples.{Sample, Samples}
 use Rattle.trace.specs.declared.Trace.{Trace}
-use Rattle.trace.specs.Numbers.{StoredSamples, StoredCells, SetupNumber, TraceNumber, PlaceNumber, Good, StartNumber, PutNumber, AskNumber, ReadNumber}
-use Rattle.trace.specs.Rows.{lentOk, setupOutcome, lentOutcome, traceOutcome, placeOutcome, putOutcome, askOutcome, readOutcome}
+use Rattle.trace.specs.Numbers.{Valid, LentSamples, LentTable, StoredSamples, StoredCells, SetupNumber, TraceNumber, PlaceNumber, Good, StartNumber, PutNumber, AskNumber, ReadNumber}
+use Rattle.trace.specs.Rows.{lentOk, setupOutcome, lentOutcome, traceOutcome, placeOutcome, sampleOutcome, putOutcome, askOutcome, readOutcome}
 use Rattle.trace.proofs.Decided.{setup-decided, tolerances-decided, lent-samples, lent-table, lent-ranks, samples-decided, stored-decided, sample-decided, there-decided, absent, not-both}
 use Rattle.trace.proofs.Checks.{lent-done}
 
@@ -64,16 +65,32 @@ place-row a v h =
     by false room true e d r f o g = record { gives = λ rest q k. inr (λ p. d refl (p .0), inr (λ l. omega (arith, o refl), k refl)) }
     by false room false e d r f o g = record { gives = λ rest q k. inr (λ p. d refl (p .0), inl (lt-of-le-of-ne (g refl) (λ z. d refl (sym z)), refl)) }
 
+-- 6 to 8
+sample-row : (a : Trace) (v : ℕ) (x : Sample) → a .held ≤ a .capacity → Row (sampleOutcome a v x) (λ rest. First 6 (Valid x → ⊥) (PlaceNumber a v rest))
+unfolding sampleOutcome
+sample-row a v x h = then-row _ _ (unless-row _ Coordinate (sample-decided x)) (λ f. place-row a v h)
+
 -- ---- each call
+pub trace-number : (a : Trace) (xs : Samples) (t : List ℕ) → TraceNumber a (LentSamples a xs × LentTable a t) (StoredSamples a xs × StoredCells a t) Good (code (traceOutcome a xs t (a .held)))
+trace-number a xs t = row-number _ _ (trace-row a xs t (a .held) (lent-table a xs t))
+
 pub start-number : (m N : ℕ) (tols : List ℕ) → StartNumber m N tols (code (setupOutcome m N tols))
 start-number m N tols = row-number _ _ (setup-row m N tols)
 
 pub put-number : (a : Trace) (xs : Samples) (t : List ℕ) (v : ℕ) (x : Sample) → PutNumber a xs t v x (code (putOutcome a xs t v x))
 unfolding putOutcome
 put-number a xs t v x =
-    row-number _ _
-    (then-row _ _ (trace-row a xs t (a .held) (lent-table a xs t))
-    (λ e. then-row _ _ (unless-row _ Coordinate (sample-decided x)) (λ f. place-row a v (held-within a xs t e))))
+    row-number _ _ (then-row _ _ (trace-row a xs t (a .held) (lent-table a xs t)) (λ e. sample-row a v x (held-within a xs t e)))
+
+-- which is tested in two steps: refused by 1 to 5, or, where these pass, as the sample is
+module _ (a : Trace) (xs : Samples) (t : List ℕ) (v : ℕ) (x : Sample) where
+  pub put-stopped : {why : Refusal} → traceOutcome a xs t (a .held) ≡ Refused why → PutNumber a xs t v x (number why)
+  unfolding putOutcome
+  put-stopped h = rw h at (put-number a xs t v x)
+
+  pub put-admitted : traceOutcome a xs t (a .held) ≡ Done → PutNumber a xs t v x (code (sampleOutcome a v x))
+  unfolding putOutcome
+  put-admitted h = rw h at (put-number a xs t v x)
 
 pub ask-number : (a : Trace) (xs : Samples) (k i j : ℕ) → AskNumber a xs k i j (code (askOutcome a xs k i j))
 unfolding askOutcome

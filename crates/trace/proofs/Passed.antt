@@ -1,6 +1,6 @@
 -- What holds once a call is not refused: what the rest of every call, and every theorem about calls, may use. Assumes nothing.
-use mathlib.Core.Path.{_≡_, refl}
-use mathlib.Core.Logic.{inl}
+use mathlib.Core.Path.{_≡_, refl, ap}
+use mathlib.Core.Logic.{inl, _↔_}
 use mathlib.Core.Bool.{Bool}
 use mathlib.Core.List.{List}
 use Prim.Native.Nat.{ℕ, _≤_, _<_}
@@ -11,8 +11,10 @@ use native.Mathlib.Omega.{arith}
 use lib.IntN.{ℤ, pos}
 use lib.ListN.{length, length-set, getD, set}
 use lib.Seq.{getD-set-same, getD-set-other}
+use Rattle.refusal.specs.declared.Outcome.the-variants.{Done}
+use Rattle.refusal.specs.Number.{code}
 use Rattle.refusal.specs.Check.{Decides, First}
-use Rattle.refusal.proofs.Rows.{Reached, reached-none, reached-as, reached-next, reached-more, reached-unless}
+use Rattle.refusal.proofs.Rows.{Reached, reached-none, reached-as, reached-next, reached-more, reached-unless, reached-all, code-one}
 use Rattle.geometry.specs.Coordinate.{Coord, InRange}
 use Rattle.geometry.specs.Samples.{Sample, Samples}
 use Rattle.geometry.specs.Sweep.{Ranged}
@@ -21,22 +23,10 @@ use Rattle.costs.proofs.Exit.{put-steps}
 use Rattle.trace.specs.declared.Trace.{Trace}
 use Rattle.trace.specs.Numbers.{Sized, Tolerances, Valid, LentSamples, LentTable, StoredSamples, StoredCells, Good, SetupNumber, TraceNumber, StartNumber, PutNumber, AskNumber, ReadNumber}
 use Rattle.trace.specs.Calls.{heldWith}
-use Rattle.trace.specs.Rows.{Ready}
+use Rattle.trace.specs.Rows.{traceOutcome, Passed, PassedTable, Ready}
 use Rattle.trace.proofs.Decided.{setup-decided, tolerances-decided, lent-samples, lent-table, lent-ranks, samples-decided, stored-decided, sample-decided, not-both, there}
+use Rattle.trace.proofs.Numbers.{trace-number}
 use Rattle.trace.proofs.Held.{held-there, held-room, held-others}
-
--- checks 1 to 5 of the setup and the samples
-pub record Passed (a : Trace) (xs : Samples) : Type 0 where
-  pub sized : Sized (a .levels) (a .capacity)
-  pub tolerances : Tolerances (a .levels) (a .tolerances)
-  pub lent : LentSamples a xs
-  pub held : a .held ≤ a .capacity
-  pub stored : StoredSamples a xs
-
--- and of the table
-pub record PassedTable (a : Trace) (t : List ℕ) : Type 0 where
-  pub room : LentTable a t
-  pub cells : StoredCells a t
 
 -- ---- how far a call came, by its number: past checks 1 and 2
 module _ (m N : ℕ) (tols : List ℕ) {rest : ℕ → Type 0} {k : ℕ} (h : SetupNumber m N tols rest k) where
@@ -112,6 +102,12 @@ module _ (a : Trace) (xs : Samples) where
 -- ---- what number 0 gives
 pub start-passed : (m N : ℕ) (tols : List ℕ) → StartNumber m N tols 0 → Sized m N × Tolerances m tols
 start-passed m N tols h = past-2 m N tols {rest = Good} h .passed (inl refl)
+
+-- the row of 1 to 5 ends in Done exactly when they have passed
+pub trace-passed : (a : Trace) (xs : Samples) (t : List ℕ) → traceOutcome a xs t (a .held) ≡ Done ↔ Passed a xs × PassedTable a t
+trace-passed a xs t =
+    let f = reached-all (table-past a xs t {rest = Good} (trace-number a xs t)) in
+    (λ e. f .0 (ap code e), λ p. code-one _ Done (f .1 p))
 
 pub put-passed : (a : Trace) (xs : Samples) (t : List ℕ) (v : ℕ) (x : Sample) → PutNumber a xs t v x 0
     → Passed a xs × PassedTable a t × Valid x × (v ≤ a .held) × (v < a .capacity)

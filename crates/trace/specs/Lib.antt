@@ -1,4 +1,5 @@
 pub mod Numbers
 pub mod Calls
+pub mod Upload
 pub mod Alike
 pub mod Rows

@@ -1,4 +1,4 @@
--- The rows of tests that the code is proved against, and what the change of a sample asks and leaves. Only private functions' contracts cite it; `proofs/Numbers.antt`
+-- The rows of tests that the code is proved against, what holds once they have passed, and what the change of a sample asks and leaves. Only private functions' contracts cite it; `proofs/Numbers.antt`
 -- shows that each row gives the number of `Numbers.antt`. Assumes nothing.
 use Prim.Native.Nat.{ℕ, zero, suc, _*_, _≤_, _<_}
 use mathlib.Core.Path.{_≡_}
@@ -19,6 +19,7 @@ use Rattle.costs.specs.Costs.{Named, named}
 use Rattle.costs.specs.Walk.{perm, Rising, LowSteps, Rewritten}
 use Rattle.trace.specs.declared.Trace.{Trace}
 use Rattle.trace.specs.declared.Changed.{Changed}
+use Rattle.trace.specs.Numbers.{Sized, Tolerances, LentSamples, LentTable, StoredSamples, StoredCells}
 use Rattle.trace.specs.Calls.{holding}
 
 -- 1
@@ -74,9 +75,21 @@ stretchOk a k i j = ltb i j && (ltb j (a .held) && from-to 1 (a .levels) k)
 unfoldable pub placeOutcome : Trace → ℕ → Outcome
 placeOutcome a v = cond (eqb v (a .held)) (unless (ltb (a .held) (a .capacity)) Full) (unless (ltb v (a .held)) Missing)
 
--- the row of each call
+-- 6 to 8
+unfoldable pub sampleOutcome : Trace → ℕ → Sample → Outcome
+sampleOutcome a v x = andThen (unless (sampleOk x) Coordinate) (placeOutcome a v)
+
+-- 3 of the lists of an upload, by their lengths
+unfoldable pub listsOk : ℕ → ℕ → ℕ → Bool
+listsOk xs ys marks = eqb xs ys && eqb xs marks
+
+-- the row of each call; an upload's up to its first sample, by the lengths of its lists
 unfoldable pub putOutcome : Trace → Samples → List ℕ → ℕ → Sample → Outcome
-putOutcome a xs t v x = andThen (traceOutcome a xs t (a .held)) (andThen (unless (sampleOk x) Coordinate) (placeOutcome a v))
+putOutcome a xs t v x = andThen (traceOutcome a xs t (a .held)) (sampleOutcome a v x)
+
+unfoldable pub uploadOutcome : Trace → Samples → List ℕ → ℕ → ℕ → ℕ → Outcome
+uploadOutcome a xs t across up restarts =
+    andThen (unless (listsOk across up restarts) Buffer) (cond (eqb across 0) Done (traceOutcome a xs t (a .held)))
 
 unfoldable pub askOutcome : Trace → Samples → ℕ → ℕ → ℕ → Outcome
 askOutcome a xs k i j =
@@ -85,6 +98,19 @@ askOutcome a xs k i j =
 
 unfoldable pub readOutcome : Trace → Samples → List ℕ → ℕ → Outcome
 readOutcome a xs t bytes = andThen (traceOutcome a xs t bytes) (unless (leb 2 (a .held)) Few)
+
+-- what holds once 1 to 5 have passed, of the setup and the samples
+pub record Passed (a : Trace) (xs : Samples) : Type 0 where
+  pub sized : Sized (a .levels) (a .capacity)
+  pub tolerances : Tolerances (a .levels) (a .tolerances)
+  pub lent : LentSamples a xs
+  pub held : a .held ≤ a .capacity
+  pub stored : StoredSamples a xs
+
+-- and of the table
+pub record PassedTable (a : Trace) (t : List ℕ) : Type 0 where
+  pub room : LentTable a t
+  pub cells : StoredCells a t
 
 -- what the change of sample v asks, of n samples after it
 pub record Ready (a : Trace) (xs : Samples) (t : List ℕ) (v n : ℕ) (x : Sample) : Type 0 where

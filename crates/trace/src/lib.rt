@@ -1,10 +1,11 @@
 // A trace's setup, and the public calls on a trace: each checks its row of refusals, then acts.
 ghost use mathlib.Core.Path.{_≡_};
-ghost use Prim.Native.Nat.{_*_, _≤_};
+ghost use Prim.Native.Nat.{_*_, _≤_, _<_};
 ghost use lib.ListN.{length};
 ghost use Rattle.geometry.specs.Samples.{sample, samples};
 ghost use Rattle.trace.specs.Calls.{buffers, kept, heldWith, StartGives, PutGives, AskGives, ReadGives};
-ghost use Rattle.trace.specs.Rows.{setupOk, tolerancesOk, setupOutcome, lentOk, lentOutcome, samplesOk, storedOk, sampleOk, stretchOk, traceOutcome, placeOutcome, putOutcome, askOutcome, readOutcome, Ready, Changes};
+ghost use Rattle.trace.specs.Upload.{OneLength, zipped, Puts, UploadGives};
+ghost use Rattle.trace.specs.Rows.{setupOk, tolerancesOk, setupOutcome, lentOk, lentOutcome, samplesOk, storedOk, sampleOk, stretchOk, listsOk, traceOutcome, placeOutcome, sampleOutcome, uploadOutcome, askOutcome, readOutcome, Passed, PassedTable, Ready, Changes};
 use geometry::Verdict;
 use geometry::coordinate_ok;
 use geometry::coordinates_ok;
@@ -33,6 +34,20 @@ pub struct Started {
 pub struct Changed {
     pub outcome: Outcome,
     pub trace: Trace,
+    pub cells: usize,
+}
+
+// Why an upload stopped: all its samples were taken, or the first that was not was refused so.
+pub enum Stop {
+    AllTaken,
+    Refused(Refusal),
+}
+
+// What upload gives: why it stopped, the trace then, how many samples were added, and the count of cells written.
+pub struct Uploaded {
+    pub stop: Stop,
+    pub trace: Trace,
+    pub added: usize,
     pub cells: usize,
 }
 
@@ -145,6 +160,16 @@ fn sample_ok(x: i16, y: i16, mark: u8) -> bool
         return false;
     }
     mark_ok(mark)
+}
+
+// Whether the lists of an upload have one length.
+fn lists_ok(xs: usize, ys: usize, marks: usize) -> bool
+    ensures { λ r. ⌜ r ≡ listsOk xs ys marks ⌝ }
+{
+    if xs != ys {
+        return false;
+    }
+    xs == marks
 }
 
 // The checks. Lengths of buffers are those lent.
@@ -279,24 +304,36 @@ impl Trace {
         unless(v < self.held, Refusal::Missing)
     }
 
-    // Refusals 1 to 8 of a sample at place v.
-    fn put_outcome(
+    // Refusals 6 to 8 of a sample at place v.
+    fn sample_outcome(self, v: usize, x: i16, y: i16, mark: u8) -> Outcome
+        ensures { λ r. ⌜ r ≡ sampleOutcome self v (sample x y mark) ⌝ }
+    {
+        let sample = unless(sample_ok(x, y, mark), Refusal::Coordinate);
+        let place = self.place_outcome(v);
+        and_then(sample, place)
+    }
+
+    // What refuses an upload before its first sample, by the lengths of its lists: 3 where they differ, and 1 to 5 unless they are empty.
+    fn upload_outcome(
         self,
         xs: &[i16],
         ys: &[i16],
         marks: &[u8],
         table: &[u16],
-        v: usize,
-        x: i16,
-        y: i16,
-        mark: u8,
+        across: usize,
+        up: usize,
+        restarts: usize,
     ) -> Outcome
-        ensures { λ r. ⌜ r ≡ putOutcome self (samples (now (xs .entry)) (now (ys .entry)) (now (marks .entry))) (now (table .entry)) v (sample x y mark) ⌝ }
+        ensures { λ r. ⌜ r ≡ uploadOutcome self (samples (now (xs .entry)) (now (ys .entry)) (now (marks .entry))) (now (table .entry)) across up restarts ⌝ }
     {
-        let o = self.trace_outcome(xs, ys, marks, table, self.held);
-        let sample = unless(sample_ok(x, y, mark), Refusal::Coordinate);
-        let place = self.place_outcome(v);
-        and_then(o, and_then(sample, place))
+        let o = unless(lists_ok(across, up, restarts), Refusal::Buffer);
+        let Outcome::Done = o else {
+            return o;
+        };
+        if across == 0 {
+            return o;
+        }
+        self.trace_outcome(xs, ys, marks, table, self.held)
     }
 
     // Refusals 1 to 5, without a table, and 8.
@@ -390,6 +427,76 @@ impl Trace {
         }
     }
 
+    // put once refusals 1 to 5 are ruled out: the sample alone is checked.
+    fn admit(
+        self,
+        xs: &mut [i16],
+        ys: &mut [i16],
+        marks: &mut [u8],
+        table: &mut [u16],
+        v: usize,
+        x: i16,
+        y: i16,
+        mark: u8,
+    ) -> Changed
+        requires { ⌜ Passed self (samples (now xs) (now ys) (now marks)) × PassedTable self (now table) ⌝ }
+        ensures { λ r. ⌜ PutGives self (buffers (samples (now (xs .entry)) (now (ys .entry)) (now (marks .entry))) (now (table .entry))) v (sample x y mark) r (buffers (samples (now (xs .exit)) (now (ys .exit)) (now (marks .exit))) (now (table .exit))) ⌝ }
+    {
+        let o = self.sample_outcome(v, x, y, mark);
+        let Outcome::Done = o else {
+            return Changed {
+                outcome: o,
+                trace: self,
+                cells: 0,
+            };
+        };
+        let n = self.held_with(v);
+        self.change(xs, ys, marks, table, v, n, x, y, mark)
+    }
+
+    // Put the samples of lists of one length one by one at the end, up to the first refused. A put leaves a trace that refusals 1 to 5 pass, so they are ruled out once.
+    fn add_each(
+        self,
+        xs: &mut [i16],
+        ys: &mut [i16],
+        marks: &mut [u8],
+        table: &mut [u16],
+        across: &[i16],
+        up: &[i16],
+        restarts: &[u8],
+    ) -> Uploaded
+        requires { ⌜ OneLength (samples (now across) (now up) (now restarts)) × (0 < length (now across) → Passed self (samples (now xs) (now ys) (now marks)) × PassedTable self (now table)) ⌝ }
+        ensures { λ r. ⌜ Puts self (buffers (samples (now (xs .entry)) (now (ys .entry)) (now (marks .entry))) (now (table .entry))) (zipped (now (across .entry)) (now (up .entry)) (now (restarts .entry))) r (buffers (samples (now (xs .exit)) (now (ys .exit)) (now (marks .exit))) (now (table .exit))) ⌝ }
+        ensures { λ _. ⌜ samples (now (across .exit)) (now (up .exit)) (now (restarts .exit)) ≡ samples (now (across .entry)) (now (up .entry)) (now (restarts .entry)) ⌝ }
+    {
+        let mut trace = self;
+        let mut cells = 0;
+        let mut i = 0;
+        while i < across.len() {
+            let x = across[i];
+            let y = up[i];
+            let next = trace.admit(xs, ys, marks, table, trace.held, x, y, restarts[i]);
+            let o = next.outcome;
+            if let Outcome::Refused(why) = o {
+                return Uploaded {
+                    stop: Stop::Refused(why),
+                    trace,
+                    added: i,
+                    cells,
+                };
+            }
+            trace = next.trace;
+            cells += next.cells;
+            i += 1;
+        }
+        Uploaded {
+            stop: Stop::AllTaken,
+            trace,
+            added: i,
+            cells,
+        }
+    }
+
     // An empty trace.
     pub fn start(levels: usize, capacity: usize, tolerances: [u32; 16]) -> Started
         ensures { λ r. ⌜ StartGives levels capacity tolerances r ⌝ }
@@ -432,7 +539,7 @@ impl Trace {
     ) -> Changed
         ensures { λ r. ⌜ PutGives self (buffers (samples (now (xs .entry)) (now (ys .entry)) (now (marks .entry))) (now (table .entry))) v (sample x y mark) r (buffers (samples (now (xs .exit)) (now (ys .exit)) (now (marks .exit))) (now (table .exit))) ⌝ }
     {
-        let o = self.put_outcome(xs, ys, marks, table, v, x, y, mark);
+        let o = self.trace_outcome(xs, ys, marks, table, self.held);
         let Outcome::Done = o else {
             return Changed {
                 outcome: o,
@@ -440,8 +547,40 @@ impl Trace {
                 cells: 0,
             };
         };
-        let n = self.held_with(v);
-        self.change(xs, ys, marks, table, v, n, x, y, mark)
+        self.admit(xs, ys, marks, table, v, x, y, mark)
+    }
+
+    // The samples of three lists, each put at the end, up to the first refused; those before it stay. Empty lists check nothing.
+    pub fn upload(
+        self,
+        xs: &mut [i16],
+        ys: &mut [i16],
+        marks: &mut [u8],
+        table: &mut [u16],
+        across: &[i16],
+        up: &[i16],
+        restarts: &[u8],
+    ) -> Uploaded
+        ensures { λ r. ⌜ UploadGives self (buffers (samples (now (xs .entry)) (now (ys .entry)) (now (marks .entry))) (now (table .entry))) (samples (now (across .entry)) (now (up .entry)) (now (restarts .entry))) r (buffers (samples (now (xs .exit)) (now (ys .exit)) (now (marks .exit))) (now (table .exit))) (samples (now (across .exit)) (now (up .exit)) (now (restarts .exit))) ⌝ }
+    {
+        let o = self.upload_outcome(
+            xs,
+            ys,
+            marks,
+            table,
+            across.len(),
+            up.len(),
+            restarts.len(),
+        );
+        if let Outcome::Refused(why) = o {
+            return Uploaded {
+                stop: Stop::Refused(why),
+                trace: self,
+                added: 0,
+                cells: 0,
+            };
+        }
+        self.add_each(xs, ys, marks, table, across, up, restarts)
     }
 
     // Whether the stretch from sample i to sample j is permitted at level k.

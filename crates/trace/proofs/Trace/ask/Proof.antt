@@ -8,7 +8,8 @@ use Rattle.geometry.proofs.Coordinate.{fewer-ranged}
 use Rattle.geometry.specs.Samples.{samples}
 use Rattle.trace.specs.Numbers.{AskNumber}
 use Rattle.trace.proofs.Numbers.{ask-number}
-use Rattle.trace.proofs.Passed.{Passed, ask-passed, in-range}
+use Rattle.trace.specs.Rows.{Passed}
+use Rattle.trace.proofs.Passed.{ask-passed, in-range}
 use Rattle.trace.proofs.Trace.ask.Statement.{statement}
 use Rattle.trace.proofs.Trace.ask.Tie as tie
 

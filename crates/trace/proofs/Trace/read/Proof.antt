@@ -8,7 +8,8 @@ use Rattle.refusal.specs.Number.{code}
 use Rattle.geometry.specs.Samples.{samples}
 use Rattle.trace.specs.Numbers.{ReadNumber}
 use Rattle.trace.proofs.Numbers.{read-number}
-use Rattle.trace.proofs.Passed.{Passed, PassedTable, read-passed}
+use Rattle.trace.specs.Rows.{Passed, PassedTable}
+use Rattle.trace.proofs.Passed.{read-passed}
 use Rattle.readout.proofs.Meaning.{read-ranks}
 use Rattle.trace.proofs.Calls.{done-refused}
 use Rattle.trace.proofs.Trace.read.Statement.{statement}

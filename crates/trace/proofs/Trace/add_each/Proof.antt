@@ -1,0 +1,165 @@
+-- `trace::Trace::add_each` meets its contract. The invariant: i samples are on their way. The measure is how many are left. Assumes nothing.
+use mathlib.Core.Path.{_≡_, refl}
+use Prim.Native.Nat.{_-_, _<_}
+use native.Mathlib.Omega.{arith}
+use lib.IntN.{pos}
+use lib.ListN.{length, getD}
+use mir.Syntax.{w16}
+use mir.Facts.{toZ-ofZ}
+use borrow.Author.Needs.{needs}
+use Rattle.geometry.specs.Samples.{samples}
+use Rattle.trace.specs.Calls.{buffers, PutGives}
+use Rattle.trace.specs.Upload.{zipped}
+use Rattle.trace.proofs.Upload.{noSample, zipped-length, zipped-at, Underway, underway-none, next-few, underway-more, underway-stops, underway-ends}
+use Rattle.trace.proofs.Trace.add_each.Statement.{statement}
+use Rattle.trace.proofs.Trace.add_each.Tie as tie
+
+abbrev Inv-loop : tie.InvT-loop
+Inv-loop xs₀ ys₀ marks₀ table₀ across up restarts trace₀ cells₀ i₀ xs ys marks table trace cells i =
+    Underway trace₀ (buffers (samples xs₀ ys₀ marks₀) table₀) (zipped across up restarts) i cells trace (buffers (samples xs ys marks) table)
+
+abbrev μ-loop : tie.MeasureT-loop
+μ-loop xs₀ ys₀ marks₀ table₀ across up restarts trace₀ cells₀ i₀ xs ys marks table trace cells i = length across - i
+
+loop-holds : tie.Need-loop-holds Inv-loop μ-loop
+loop-holds c =
+    let s = c .before .before .before in
+    let a = s .args in
+    underway-none (λ l. s .pre .1 (omega (arith, zipped-length (a .across .now) (a .up .now) (a .restarts .now) (s .pre .0))))
+
+-- there is a next sample
+left : (c : tie.In-loop Inv-loop μ-loop) →
+    let a = c .before .before .before .before .before .args in
+    c .before .loop .i < length (zipped (a .across .now) (a .up .now) (a .restarts .now))
+left c = let s = c .before .before .before .before .before in omega (arith, zipped-length (s .args .across .now) (s .args .up .now) (s .args .restarts .now) (s .pre .0))
+
+-- what is done with it
+next : (c : tie.After-admit Inv-loop μ-loop) →
+    let i = c .before .before .before .before .before .before .before .before .before .loop in
+    let a = c .before .before .before .before .before .before .before .before .before .before .before .before .before .args in
+    PutGives (i .trace) (buffers (samples (i .xs) (i .ys) (i .marks)) (i .table)) (i .trace .held) (getD (zipped (a .across .now) (a .up .now) (a .restarts .now)) (i .i) noSample) (c .admit .result)
+    (buffers (samples (c .admit .last .1 .0) (c .admit .last .1 .1 .0) (c .admit .last .1 .1 .1 .0)) (c .admit .last .1 .1 .1 .1 .0))
+next c =
+    let l = c .before .before .before .before .before .before .before .before in
+    let i = l .before .loop in
+    let s = l .before .before .before .before .before in
+    let a = s .args in
+    let x = toZ-ofZ {w = w16} {z = getD (a .across .now) (i .i) (pos 0)} (record { sfits = c .before .before .before .before .before .before .before .x .given }) in
+    let y = toZ-ofZ {w = w16} {z = getD (a .up .now) (i .i) (pos 0)} (record { sfits = c .before .before .before .before .before .before .y .given }) in
+    rw (zipped-at (a .across .now) (a .up .now) (a .restarts .now) (i .i) (s .pre .0) (omega arith)) (rw (x, y) at (c .admit .ensures))
+
+mul-x : tie.Need-mul-x Inv-loop μ-loop
+mul-x c = search needs
+
+shared-slice-copy-out-x : tie.Need-shared-slice-copy-out-x Inv-loop μ-loop
+shared-slice-copy-out-x c = search needs
+
+mul-y : tie.Need-mul-y Inv-loop μ-loop
+mul-y c = search needs
+
+shared-slice-copy-out-y : tie.Need-shared-slice-copy-out-y Inv-loop μ-loop
+shared-slice-copy-out-y c = search needs
+
+shared-slice-read-admit : tie.Need-shared-slice-read-admit Inv-loop μ-loop
+shared-slice-read-admit c = search needs
+
+admit-requires : tie.Need-admit-requires Inv-loop μ-loop
+admit-requires c κs =
+    let l = c .before .before .before .before .before .before .before in
+    l .before .loop .inv .ready (left l)
+
+enum-known-o : tie.Need-enum-known-o Inv-loop μ-loop
+enum-known-o c = search needs
+
+same-length : tie.Need-same-length Inv-loop μ-loop
+same-length c = search needs
+
+same-length-2 : tie.Need-same-length-2 Inv-loop μ-loop
+same-length-2 c = search needs
+
+same-length-3 : tie.Need-same-length-3 Inv-loop μ-loop
+same-length-3 c = search needs
+
+same-length-4 : tie.Need-same-length-4 Inv-loop μ-loop
+same-length-4 c = search needs
+
+returns : tie.Need-returns Inv-loop μ-loop
+returns c =
+    let d = c .before .before .before .before .before .before .before .before .before in
+    let l = d .before .before .before .before .before .before .before .before in
+    (underway-stops (l .before .loop .inv) (left l) (next d) (c .before .o .given .1), refl)
+
+enum-told : tie.Need-enum-told Inv-loop μ-loop
+enum-told c = search needs
+
+add-cells : tie.Need-add-cells Inv-loop μ-loop
+add-cells c =
+    let d = c .before .before .before .before .before .before .before .before .before .before in
+    let l = d .before .before .before .before .before .before .before .before in
+    let U = l .before .loop .inv in
+    let P = U .ready (left l) .0 in
+    omega (arith, U .within, U .few, P .held, P .sized .3, next-few U (left l) (next d) (c .before .before .enum-told .given .1))
+
+add-i : tie.Need-add-i Inv-loop μ-loop
+add-i c =
+    let l = c .before .before .before .before .before .before .before .before .before .before .before .before .before .before .before .before .before .before in
+    let U = l .before .loop .inv in
+    let P = U .ready (left l) .0 in
+    omega (arith, U .within, P .held, P .sized .3)
+
+loop-less : tie.Need-loop-less Inv-loop μ-loop
+loop-less c = search needs
+
+loop-again : tie.Need-loop-again Inv-loop μ-loop
+loop-again c =
+    let d = c .before .before .before .before .before .before .before .before .before .before in
+    let l = d .before .before .before .before .before .before .before .before in
+    underway-more (l .before .loop .inv) (left l) (next d) (c .before .before .enum-told .given .1)
+
+same-length-5 : tie.Need-same-length-5 Inv-loop μ-loop
+same-length-5 c = search needs
+
+same-length-6 : tie.Need-same-length-6 Inv-loop μ-loop
+same-length-6 c = search needs
+
+same-length-7 : tie.Need-same-length-7 Inv-loop μ-loop
+same-length-7 c = search needs
+
+same-length-8 : tie.Need-same-length-8 Inv-loop μ-loop
+same-length-8 c = search needs
+
+returns-2 : tie.Need-returns-2 Inv-loop μ-loop
+returns-2 c =
+    let i = c .before .loop in
+    let s = c .before .before .before .before .before in
+    (underway-ends (i .inv) (omega (arith, zipped-length (s .args .across .now) (s .args .up .now) (s .args .restarts .now) (s .pre .0))), refl)
+
+pub add-each-spec : {M : Type 1} → statement M
+add-each-spec =
+    tie.close
+    (tie.spec
+    Inv-loop
+    μ-loop
+    loop-holds
+    mul-x
+    shared-slice-copy-out-x
+    mul-y
+    shared-slice-copy-out-y
+    shared-slice-read-admit
+    admit-requires
+    enum-known-o
+    same-length
+    same-length-2
+    same-length-3
+    same-length-4
+    returns
+    enum-told
+    add-cells
+    add-i
+    loop-less
+    loop-again
+    same-length-5
+    same-length-6
+    same-length-7
+    same-length-8
+    returns-2)
