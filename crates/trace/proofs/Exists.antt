@@ -1,12 +1,15 @@
 -- One theorem for each call: from every entry there is a result that its promise allows. Assumes nothing.
 use mathlib.Core.Path.{refl}
-use mathlib.Core.List.{List}
-use Prim.Native.Nat.{ℕ, _-_}
+use mathlib.Core.List.{List, [], _∷_}
+use Prim.Native.Nat.{ℕ, suc, _+_, _-_}
 use native.Mathlib.Omega.{arith}
 use lib.ListN.{length, getD, replicate}
+use Rattle.refusal.specs.declared.Refusal.the-variants.{Buffer}
 use Rattle.refusal.specs.declared.Outcome.{Outcome}
 use Rattle.refusal.specs.declared.Outcome.the-variants.{Done, Refused}
 use Rattle.refusal.specs.Number.{code}
+use Rattle.refusal.proofs.Plain.{decided}
+use Rattle.refusal.proofs.Rows.{by-outcome}
 use Rattle.geometry.specs.declared.Verdict.{Verdict}
 use Rattle.geometry.specs.declared.Verdict.the-variants as Verdict
 use Rattle.geometry.specs.Samples.{Sample, Samples, store}
@@ -22,12 +25,17 @@ use Rattle.readout.proofs.Exists.{ranks-some}
 use Rattle.trace.specs.declared.Trace.{Trace}
 use Rattle.trace.specs.declared.Started.{Started}
 use Rattle.trace.specs.declared.Changed.{Changed}
+use Rattle.trace.specs.declared.Stop.the-variants as Stop
+use Rattle.trace.specs.declared.Uploaded.{Uploaded}
 use Rattle.trace.specs.declared.Asked.{Asked}
 use Rattle.trace.specs.declared.Asked.the-variants as Asked
 use Rattle.trace.specs.declared.Levels.{Levels}
 use Rattle.trace.specs.Numbers.{StartNumber, PutNumber, AskNumber, ReadNumber}
 use Rattle.trace.specs.Calls.{emptyTrace, noTrace, StartGives, Buffers, buffers, heldWith, holding, PutGives, AskGives, ReadGives}
+use Rattle.trace.specs.Upload.{uploaded, zipped, Puts, UploadGives}
+use Rattle.trace.specs.Upload.Puts.{all-taken, one-refused, one-taken}
 use Rattle.trace.specs.Rows.{setupOutcome, putOutcome, askOutcome, readOutcome}
+use Rattle.trace.proofs.Decided.{lists-decided}
 use Rattle.trace.proofs.Numbers.{start-number, put-number, ask-number, read-number}
 use Rattle.trace.proofs.Passed.{put-ready, ask-passed, read-passed, in-range}
 use Rattle.trace.proofs.Calls.{done-refused, refused-gives, changed-gives}
@@ -55,6 +63,21 @@ put-some a b v x = by (putOutcome a (b .samples) (b .table) v x) (put-number a (
           buffers xs (w .0),
           changed-gives h (record { outcome = refl; trace = refl; samples = refl; cells = w .1; count = refl }),
         )
+
+-- ---- upload
+pub puts-some : (a : Trace) (b : Buffers) (zs : List Sample) → (r : Uploaded) × (e : Buffers) × Puts a b zs r e
+puts-some a b [] = (uploaded Stop.AllTaken a 0 0, b, all-taken)
+puts-some a b (x ∷ xs) =
+    let w = put-some a b (a .held) x in
+    by-outcome (w .0 .outcome)
+    (λ d. let z = puts-some (w .0 .trace) (w .1) xs in (uploaded (z .0 .stop) (z .0 .trace) (suc (z .0 .added)) (w .0 .cells + z .0 .cells), z .1, one-taken (w .2) d (z .2)))
+    (λ why h. (uploaded (Stop.Refused why) (w .0 .trace) 0 0, w .1, one-refused (w .2) h))
+
+pub upload-some : (a : Trace) (b : Buffers) (us : Samples) → (r : Uploaded) × (e : Buffers) × UploadGives a b us r e us
+upload-some a b us = elim (decided _ (lists-decided us)) [
+  | yes o ↦ let w = puts-some a b (zipped (us .across) (us .upward) (us .marks)) in (w .0, w .1, record { unequal = λ n. absurd (n o); puts = λ p. w .2; lists = refl })
+  | no n ↦ (uploaded (Stop.Refused Buffer) a 0 0, b, record { unequal = λ p. (refl, refl); puts = λ o. absurd (n o); lists = refl })
+]
 
 -- ---- ask
 pub ask-some : (a : Trace) (xs : Samples) (k i j : ℕ) → (r : Asked) × AskGives a xs k i j r xs

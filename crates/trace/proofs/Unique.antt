@@ -1,5 +1,5 @@
 -- One theorem for each call: any two results that its promise allows for one entry, answers and buffers after the call, are equal. Assumes nothing.
-use mathlib.Core.Path.{_≡_, refl, sym, ap, _∙_}
+use mathlib.Core.Path.{_≡_, refl, sym, ap, subst, _∙_}
 use mathlib.Core.Logic.{_↔_}
 use mathlib.Core.List.{List}
 use Prim.Native.Nat.{ℕ, _-_}
@@ -9,6 +9,7 @@ use Rattle.refusal.specs.declared.Refusal.{Refusal}
 use Rattle.refusal.specs.declared.Outcome.{Outcome}
 use Rattle.refusal.specs.declared.Outcome.the-variants.{Done, Refused}
 use Rattle.refusal.specs.Number.{code}
+use Rattle.refusal.proofs.Plain.{decided}
 use Rattle.refusal.proofs.Rows.{numbered, number-one, code-one, by-outcome}
 use Rattle.geometry.specs.Near.{Passable}
 use Rattle.geometry.specs.Samples.{Sample, Samples}
@@ -18,16 +19,20 @@ use Rattle.costs.specs.Costs.{Permit}
 use Rattle.trace.specs.declared.Trace.{Trace}
 use Rattle.trace.specs.declared.Started.{Started}
 use Rattle.trace.specs.declared.Changed.{Changed}
+use Rattle.trace.specs.declared.Uploaded.{Uploaded}
 use Rattle.trace.specs.declared.Asked.{Asked}
 use Rattle.trace.specs.declared.Asked.the-variants as Asked
 use Rattle.trace.specs.declared.Levels.{Levels}
 use Rattle.trace.specs.Numbers.{StartNumber, PutNumber, ReadNumber}
 use Rattle.trace.specs.Calls.{StartGives, Buffers, Put, PutGives, asked, Says, AskGives, ReadGives}
+use Rattle.trace.specs.Upload.{Puts, UploadGives}
+use Rattle.trace.specs.Upload.Puts.{all-taken, one-refused, one-taken}
+use Rattle.trace.proofs.Decided.{lists-decided}
 use Rattle.trace.proofs.Numbers.{start-number-one, put-number-one, ask-number-one, read-number-one}
 use Rattle.trace.proofs.Passed.{read-passed}
 use Rattle.costs.proofs.Exit.{rewritten-unique}
 use Rattle.readout.proofs.Meaning.{ranks-one}
-use Rattle.trace.proofs.Calls.{Able, put-able, put-rewritten, buffers-is}
+use Rattle.trace.proofs.Calls.{done-refused, Able, put-able, put-rewritten, buffers-is}
 
 -- two outcomes with a number that one row leaves no choice of are equal: both Done, or both one refusal
 pub by-number : {A : Type 0} (Number : ℕ → Type 0) → ((j k : ℕ) → Number j → Number k → j ≡ k) → (o p : Outcome) → Number (code o) → Number (code p)
@@ -74,6 +79,28 @@ put-one a b v x r q e f A B =
         let P = A .refused w h in
         let Q = B .refused w g in
         (changed-same o (P .trace ∙ sym (Q .trace)) (P .count ∙ sym (Q .count)), P .lent ∙ sym (Q .lent))
+
+-- ---- upload
+pub puts-one : {a : Trace} {b : Buffers} {zs : List Sample} {r q : Uploaded} {e f : Buffers} → Puts a b zs r e → Puts a b zs q f → (r ≡ q) × (e ≡ f)
+puts-one all-taken all-taken = (refl, refl)
+puts-one (one-refused {a = a} {b = b} {e = e} {x = x} {r = r} {why = v} G h) (one-refused {e = f} {r = q} {why = w} H g) =
+    let o = put-one a b (a .held) x r q e f G H in
+    let z : v ≡ w = number-one v w (ap code (sym h ∙ ap (λ (r : Changed). r .outcome) (o .0) ∙ g)) in
+    (rw (z, o .0), o .1)
+puts-one (one-refused {a = a} {b = b} {e = e} {x = x} {r = r} G h) (one-taken {c = f} {r = q} H g Q) =
+    done-refused g (ap (λ (r : Changed). r .outcome) (sym (put-one a b (a .held) x r q e f G H .0)) ∙ h)
+puts-one (one-taken {a = a} {b = b} {c = e} {x = x} {r = r} G h P) (one-refused {e = f} {r = q} H g) =
+    done-refused h (ap (λ (r : Changed). r .outcome) (put-one a b (a .held) x r q e f G H .0) ∙ g)
+puts-one (one-taken {a = a} {b = b} {c = c} {x = x} {xs = xs} {r = r} G h P) (one-taken {c = d} {e = f} {r = q} {q = t} H g Q) =
+    let o = put-one a b (a .held) x r q c d G H in
+    let z = puts-one P (subst (λ (u : Changed). Puts (u .trace) c xs t f) (sym (o .0)) (subst (λ (u : Buffers). Puts (q .trace) u xs t f) (sym (o .1)) Q)) in
+    (rw (o .0, z .0), z .1)
+
+pub upload-one : (a : Trace) (b : Buffers) (us : Samples) (r q : Uploaded) (e f : Buffers) (u w : Samples) → UploadGives a b us r e u → UploadGives a b us q f w → (r ≡ q) × (e ≡ f) × (u ≡ w)
+upload-one a b us r q e f u w A B = elim (decided _ (lists-decided us)) [
+  | yes o ↦ let z = puts-one (A .puts o) (B .puts o) in (z .0, z .1, A .lists ∙ sym (B .lists))
+  | no n ↦ let P = A .unequal n in let Q = B .unequal n in (P .0 ∙ sym (Q .0), P .1 ∙ sym (Q .1), A .lists ∙ sym (B .lists))
+]
 
 -- ---- ask
 -- two answers about one stretch, with one number

@@ -1,16 +1,18 @@
 -- Nothing else is read: entries that are alike give answers that are alike. Assumes nothing.
-use mathlib.Core.Path.{_≡_, refl, sym, subst, _∙_}
+use mathlib.Core.Path.{_≡_, refl, sym, ap, subst, _∙_}
 use mathlib.Core.Logic.{_↔_}
 use mathlib.Core.Bool.{Bool}
 use mathlib.Core.List.{List}
-use Prim.Native.Nat.{ℕ, _+_, _-_, _≤_, _<_}
+use Prim.Native.Nat.{ℕ, suc, _+_, _-_, _≤_, _<_}
 use native.Mathlib.Decide.{ℕ-discrete}
 use native.Mathlib.Omega.{arith}
 use lib.ListN.{length, length-set, getD, set}
 use lib.Seq.{getD-set-same, getD-set-other}
 use Rattle.refusal.specs.declared.Refusal.{Refusal}
 use Rattle.refusal.specs.declared.Outcome.the-variants.{Done, Refused}
-use Rattle.refusal.proofs.Rows.{first-same, first-unless}
+use Rattle.refusal.specs.Number.{code}
+use Rattle.refusal.proofs.Plain.{decided}
+use Rattle.refusal.proofs.Rows.{first-same, first-unless, number-one}
 use Rattle.geometry.specs.Samples.{Sample, Samples, sampleAt, store}
 use Rattle.geometry.proofs.Spoiler.{spoiler-carried}
 use Rattle.geometry.proofs.Permits.{Same, same-back, passable-same, permitted-same, permits-same}
@@ -24,12 +26,17 @@ use Rattle.readout.proofs.Unique.{read-alike}
 use Rattle.readout.proofs.Meaning.{ranks-read}
 use Rattle.trace.specs.declared.Trace.{Trace}
 use Rattle.trace.specs.declared.Changed.{Changed}
+use Rattle.trace.specs.declared.Stop.the-variants as Stop
+use Rattle.trace.specs.declared.Uploaded.{Uploaded}
 use Rattle.trace.specs.declared.Asked.{Asked}
 use Rattle.trace.specs.declared.Asked.the-variants as Asked
 use Rattle.trace.specs.declared.Levels.{Levels}
 use Rattle.trace.specs.Numbers.{Tolerances, Valid, LentSamples, LentTable, StoredSamples, StoredCells, TraceNumber, PutNumber, ReadNumber}
 use Rattle.trace.specs.Calls.{Buffers, heldWith, Put, PutGives, asked, Says, AskGives, ReadGives}
-use Rattle.trace.specs.Alike.{AlikeTraces, AlikePlaces, AlikeSamples, AlikeCells, AlikeBuffers, AlikeChanges}
+use Rattle.trace.specs.Upload.{Puts, UploadGives}
+use Rattle.trace.specs.Upload.Puts.{all-taken, one-refused, one-taken}
+use Rattle.trace.specs.Alike.{AlikeTraces, AlikePlaces, AlikeSamples, AlikeCells, AlikeBuffers, AlikeChanges, AlikeUploads}
+use Rattle.trace.proofs.Decided.{lists-decided}
 use Rattle.trace.proofs.Numbers.{put-number-one, ask-number-one, read-number-one}
 use Rattle.trace.proofs.Held.{held-others}
 use Rattle.trace.proofs.Passed.{put-passed, ask-passed, read-passed}
@@ -194,6 +201,36 @@ pub put-unread : (a c : Trace) (b d : Buffers) (v : ℕ) (x : Sample) (r q : Cha
     → PutGives a b v x r e → PutGives c d v x q f → AlikeChanges r q e f
 put-unread a c b d v x r q e f A B G H =
     put-tuned a (c .tolerances) (A .tolerances) b d B v x r q e f G (subst (λ z. PutGives z d v x q f) (tuned-same A) H)
+
+-- ---- upload
+-- the next sample of each
+next-unread : {a c : Trace} {b d : Buffers} {x : Sample} {r q : Changed} {e f : Buffers} → AlikeTraces a c → AlikeBuffers a b d
+    → PutGives a b (a .held) x r e → PutGives c d (c .held) x q f → AlikeChanges r q e f
+next-unread {a} {c} {b} {d} {x} {r} {q} {e} {f} A B G H = put-unread a c b d (a .held) x r q e f A B G (subst (λ v. PutGives c d v x q f) (sym (A .held)) H)
+
+pub puts-unread : {a c : Trace} {b d : Buffers} {zs : List Sample} {r q : Uploaded} {e f : Buffers} → AlikeTraces a c → AlikeBuffers a b d → Puts a b zs r e → Puts c d zs q f → AlikeUploads r q e f
+puts-unread A B all-taken all-taken = record { stop = refl; added = refl; cells = refl; trace = A; lent = B }
+puts-unread A B (one-refused {why = v} G h) (one-refused {why = w} H g) =
+    let o = next-unread A B G H in
+    let z : v ≡ w = number-one v w (ap code (sym h ∙ o .outcome ∙ g)) in
+    record { stop = ap Stop.Refused z; added = refl; cells = refl; trace = o .trace; lent = o .lent }
+puts-unread A B (one-refused G h) (one-taken H g Q) = done-refused g (sym (next-unread A B G H .outcome) ∙ h)
+puts-unread A B (one-taken G h P) (one-refused H g) = done-refused h (next-unread A B G H .outcome ∙ g)
+puts-unread A B (one-taken G h P) (one-taken H g Q) =
+    let o = next-unread A B G H in
+    let z = puts-unread (o .trace) (o .lent) P Q in
+    record { stop = z .stop; added = ap suc (z .added); cells = rw (o .cells, z .cells); trace = z .trace; lent = z .lent }
+
+-- of the lists all is read, unless they differ in length
+pub upload-unread : (a c : Trace) (b d : Buffers) (us : Samples) (r q : Uploaded) (e f : Buffers) (u w : Samples) → AlikeTraces a c → AlikeBuffers a b d
+    → UploadGives a b us r e u → UploadGives c d us q f w → AlikeUploads r q e f
+upload-unread a c b d us r q e f u w A B G H = elim (decided _ (lists-decided us)) [
+  | yes o ↦ puts-unread A B (G .puts o) (H .puts o)
+  | no n ↦
+      let P = G .unequal n in
+      let Q = H .unequal n in
+      rw (P .0, P .1, Q .0, Q .1) (record { stop = refl; added = refl; cells = refl; trace = A; lent = B })
+]
 
 -- ---- ask
 -- an answer about a stretch says the same where tolerance and samples are the same unless the call is refused

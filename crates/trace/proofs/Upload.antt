@@ -151,7 +151,7 @@ module _ {a c : Trace} {b d : Buffers} {zs : List Sample} {i cells : ℕ} (U : U
 
       pub underway-more : Underway a b zs (i + 1) (cells + r .cells) (r .trace) f
       underway-more = record {
-        leads = λ q e P. rw (add-assoc i 1 (q .added), add-assoc cells (r .cells) (q .cells)) (U .leads _ e (rw (drop-cons zs i noSample l) (one-taken G h (rw (add-one i) at P))));
+        leads = λ q e P. rw (let h : i + 1 + q .added ≡ i + suc (q .added) = omega arith in h, add-assoc cells (r .cells) (q .cells)) (U .leads _ e (rw (drop-cons zs i noSample l) (one-taken G h (rw (add-one i) at P))));
         within = rw (put-adds c d (c .held) _ r f G h refl .trace) (omega (arith, U .within));
         few = omega (arith, U .few, next-few);
         room = room-on (U .room) (put-room G);

@@ -8,6 +8,7 @@ use Rattle.geometry.specs.Samples.{Samples}
 use Rattle.table.specs.Table.{cell}
 use Rattle.trace.specs.declared.Trace.{Trace}
 use Rattle.trace.specs.declared.Changed.{Changed}
+use Rattle.trace.specs.declared.Uploaded.{Uploaded}
 use Rattle.trace.specs.Calls.{Buffers}
 
 -- setups with the same m, N, n and tolerances of levels 1 to m
@@ -40,6 +41,14 @@ pub record AlikeBuffers (a : Trace) (b d : Buffers) : Type 0 where
 -- answers of put that agree, with all that the next call may read
 pub record AlikeChanges (r q : Changed) (e f : Buffers) : Type 0 where
   pub outcome : r .outcome ≡ q .outcome
+  pub cells : r .cells ≡ q .cells
+  pub trace : AlikeTraces (r .trace) (q .trace)
+  pub lent : AlikeBuffers (r .trace) e f
+
+-- and those of upload
+pub record AlikeUploads (r q : Uploaded) (e f : Buffers) : Type 0 where
+  pub stop : r .stop ≡ q .stop
+  pub added : r .added ≡ q .added
   pub cells : r .cells ≡ q .cells
   pub trace : AlikeTraces (r .trace) (q .trace)
   pub lent : AlikeBuffers (r .trace) e f

@@ -1,7 +1,7 @@
 -- An upload: the samples of three lists, put one by one at the end of a trace, up to the first refused. Assumes nothing.
 use mathlib.Core.Path.{_≡_}
 use mathlib.Core.List.{List, [], _∷_}
-use Prim.Native.Nat.{ℕ, _+_}
+use Prim.Native.Nat.{ℕ, suc, _+_}
 use lib.IntN.{ℤ}
 use lib.ListN.{length}
 use Rattle.refusal.specs.declared.Refusal.{Refusal}
@@ -41,7 +41,7 @@ pub data Puts : Trace → Buffers → List Sample → Uploaded → Buffers → T
   one-refused : {a : Trace} {b e : Buffers} {x : Sample} {xs : List Sample} {r : Changed} {why : Refusal} → PutGives a b (a .held) x r e → r .outcome ≡ Refused why
       → Puts a b (x ∷ xs) (uploaded (Stop.Refused why) (r .trace) 0 0) e
   one-taken : {a : Trace} {b c e : Buffers} {x : Sample} {xs : List Sample} {r : Changed} {q : Uploaded} → PutGives a b (a .held) x r c → r .outcome ≡ Done → Puts (r .trace) c xs q e
-      → Puts a b (x ∷ xs) (uploaded (q .stop) (q .trace) (1 + q .added) (r .cells + q .cells)) e
+      → Puts a b (x ∷ xs) (uploaded (q .stop) (q .trace) (suc (q .added)) (r .cells + q .cells)) e
 
 -- lists of different length are refused with 3 before anything is looked at or added; else it is the puts, of which empty lists have none. The lists stay
 pub record UploadGives (a : Trace) (b : Buffers) (us : Samples) (r : Uploaded) (e : Buffers) (us′ : Samples) : Type 0 where

@@ -1,5 +1,4 @@
 -- `trace::Trace::put` meets its contract. Assumes nothing.
-use mathlib.Core.Path.{sym, _∙_}
 use mir.Facts.{toZ-ofZ}
 use borrow.Author.Needs.{needs}
 use Rattle.trace.proofs.Numbers.{put-stopped}
@@ -32,12 +31,12 @@ same-length-4 c = search needs
 returns : tie.Need-returns
 returns c =
     let g = c .enum-told2 .given .1 in
-    refused-gives (rw g (put-stopped _ _ _ _ _ (sym (c .before .before .trace-outcome .ensures) ∙ g))) g
+    refused-gives (rw g (put-stopped _ _ _ _ _ (rw (c .before .before .trace-outcome .ensures) at g))) g
 
 admit-requires : tie.Need-admit-requires
 admit-requires c κs =
     let d = c .before .before .before .before in
-    trace-passed _ _ _ .0 (sym (d .before .before .trace-outcome .ensures) ∙ d .enum-told .given .1)
+    trace-passed _ _ _ .0 (rw (d .before .before .trace-outcome .ensures) at (d .enum-told .given .1))
 
 same-length-5 : tie.Need-same-length-5
 same-length-5 c = search needs

@@ -1,5 +1,4 @@
 -- `trace::Trace::upload` meets its contract. Assumes nothing.
-use mathlib.Core.Path.{refl, sym, _∙_}
 use Prim.Native.Nat.{_<_}
 use lib.ListN.{length}
 use Rattle.geometry.specs.Samples.{samples}
@@ -19,7 +18,7 @@ ready : (c : tie.After-enum-told) →
 ready c =
     let a = c .before .before .before .before .before .before .before .before .before .before .args in
     upload-ready (a .self) (buffers (samples (a .xs .now) (a .ys .now) (a .marks .now)) (a .table .now)) (samples (a .across .now) (a .up .now) (a .restarts .now))
-    (sym (c .before .before .upload-outcome .ensures) ∙ c .enum-told .given .1)
+    (rw (c .before .before .upload-outcome .ensures) at (c .enum-told .given .1))
 
 upload-outcome-requires : tie.Need-upload-outcome-requires
 upload-outcome-requires c κs = search needs
@@ -43,7 +42,7 @@ returns : tie.Need-returns
 returns c =
     let a = c .before .before .before .before .before .before .before .before .before .before .before .args in
     upload-stopped (a .self) (buffers (samples (a .xs .now) (a .ys .now) (a .marks .now)) (a .table .now)) (samples (a .across .now) (a .up .now) (a .restarts .now))
-    (sym (c .before .before .before .upload-outcome .ensures) ∙ c .before .o .given .1)
+    (rw (c .before .before .before .upload-outcome .ensures) at (c .before .o .given .1))
 
 enum-told : tie.Need-enum-told
 enum-told c = search needs
