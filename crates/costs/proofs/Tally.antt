@@ -37,7 +37,7 @@ area-more v j h =
     (λ q. omega (arith, mul-le-mul-left {m = 1} {n = j - v} (v + 1) (omega arith)))
     (eq-or-lt-of-le h))
 
-sum-same : (n : ℕ) (f g : ℕ → ℕ) → ((x : ℕ) → f x ≡ g x) → sum n f ≡ sum n g
+pub sum-same : (n : ℕ) (f g : ℕ → ℕ) → ((x : ℕ) → f x ≡ g x) → sum n f ≡ sum n g
 unfolding sum
 sum-same zero f g h = refl
 sum-same (suc n) f g h = rw (sum-same n f g h, h n)

@@ -9,4 +9,5 @@ pub mod Unique
 pub mod Exists
 pub mod Formulas
 pub mod Upload
+pub mod Added
 pub mod Unread
