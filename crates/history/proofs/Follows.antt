@@ -1,14 +1,16 @@
 -- What follows of a sound state: the levels that a read gives, and the numbers that cannot arise; and the number of a state with no level. Assumes nothing.
 use mathlib.Core.Path.{_≡_, refl, sym, subst}
 use mathlib.Core.Logic.{⊎-elim}
-use mathlib.Core.Bool.{true, false, _&&_, _||_, true≢false}
+use mathlib.Core.Bool.{false, _&&_, _||_}
 use mathlib.Core.List.{List}
 use Prim.Native.Nat.{ℕ, _-_, _≤_, zero-le}
 use native.Mathlib.Nat.{le-refl, le-antisymm}
 use native.Mathlib.Omega.{arith}
 use lib.Dec.{eqb}
 use Rattle.refusal.specs.declared.Outcome.the-variants.{Done}
+use Rattle.refusal.specs.Number.{code}
 use Rattle.refusal.proofs.Rows.{code-one, first-taken, first-passed, first-has}
+use Rattle.geometry.specs.Samples.{Sample, Samples}
 use Rattle.family.specs.Levels as Levels
 use Rattle.family.proofs.Checks.{room}
 use Rattle.family.proofs.Costs.{genuine-checked}
@@ -20,15 +22,22 @@ use Rattle.costs.proofs.Perm.{perm-adjacent}
 use Rattle.costs.proofs.Meaning.{permissions, genuine-is, marked-held}
 use Rattle.readout.specs.Read.{rank}
 use Rattle.readout.proofs.Meaning.{read-chosen, ranks-read}
+use Rattle.trace.specs.declared.Trace.{Trace}
+use Rattle.trace.specs.declared.Changed.{Changed}
+use Rattle.trace.specs.declared.Uploaded.{Uploaded}
 use Rattle.trace.specs.declared.Levels.{Levels}
 use Rattle.trace.specs.Numbers.{TraceNumber, StoredSamples, StoredCells}
+use Rattle.trace.specs.Calls.{Buffers, PutGives}
+use Rattle.trace.specs.Upload.{stopped, Puts}
+use Rattle.trace.specs.Upload.Puts.{all-taken, one-refused, one-taken}
 use Rattle.trace.proofs.Passed.{read-passed}
+use Rattle.trace.proofs.Exactly.{upload-rows}
 use Rattle.history.specs.Run.{State, Call, Answer, Step, answered}
-use Rattle.history.specs.Run.Call.{read}
+use Rattle.history.specs.Run.Call.{put, upload, read}
 use Rattle.history.specs.Run.Answer.{levels}
-use Rattle.history.specs.Run.Step.{starts, puts, asks, reads}
-use Rattle.history.specs.Hold.{Permitted, levelsOf, Shown, MarksKept, MarksRanked, onTrace}
-use Rattle.history.proofs.Sound.{Sound, state-is}
+use Rattle.history.specs.Run.Step.{starts, puts, uploads, asks, reads}
+use Rattle.history.specs.Hold.{Permitted, levelsOf, Shown, MarksKept, MarksRanked, onTrace, Looks}
+use Rattle.history.proofs.Sound.{Sound, state, state-is, by-lists, step-sound}
 
 pub sound-shown : {s e : State} {r : Levels} → Sound s → Step s e read (levels r) → answered (levels r) ≡ 0 → Shown e r
 sound-shown {s} {e} {r} S (reads G t) h =
@@ -95,16 +104,28 @@ Possible c k = eqb k 4 || (eqb k 5 || (eqb k 2 && onTrace c)) ≡ false
 good : (c : Call) {k : ℕ} → k ≡ 0 → Possible c k
 good c z = subst (Possible c) (sym z) refl
 
+put-number : {s : State} {v : ℕ} {x : Sample} {r : Changed} {b : Buffers} → Sound s → PutGives (s .trace) (s .lent) v x r b → Possible (put v x) (code (r .outcome))
+put-number {s} {v} {x} S G =
+    let c = put v x in
+    trace-has s S (Possible c) refl refl (first-has (Possible c) refl (first-has (Possible c) refl (first-has (Possible c) refl (good c)))) (stored-samples s S, stored-cells s S) (G .number)
+
+-- so of samples put one by one
+puts-number : {a : Trace} {b e : Buffers} {ranks : List ℕ} {zs : List Sample} {r : Uploaded} (us : Samples) → Sound (state a b ranks) → Puts a b zs r e → Possible (upload us) (stopped (r .stop))
+puts-number us S all-taken = refl
+puts-number us S (one-refused G h) = rw h at (put-number S G)
+puts-number us S (one-taken G h P) = puts-number us (step-sound S (puts G refl refl)) P
+
 pub step-number : {s e : State} {c : Call} {r : Answer} → Sound s → Step s e c r → Possible c (answered r)
 step-number {c} S (starts G t l k) = first-has (Possible c) refl (first-has (Possible c) refl (good c)) (G .number)
-step-number {s} {c} S (puts G t k) =
-    trace-has s S (Possible c) refl refl (first-has (Possible c) refl (first-has (Possible c) refl (first-has (Possible c) refl (good c)))) (stored-samples s S, stored-cells s S) (G .number)
+step-number S (puts G t k) = put-number S G
+step-number {c} {r} S (uploads {us = us} G t k) = by-lists {A = Possible c (answered r)} G t k (λ P z. puts-number us S P) (λ n z. rw n refl)
 step-number {s} {c} S (asks G t l k) = trace-has s S (Possible c) refl refl (first-has (Possible c) refl (good c)) (stored-samples s S) (G .number)
 step-number {s} {c} S (reads G t) = trace-has s S (Possible c) refl refl (first-has (Possible c) refl (good c)) (stored-samples s S, stored-cells s S) (G .number)
 
--- with no level every call on a trace gives 1
-pub bare-number : {s e : State} {c : Call} {r : Answer} → s .trace .levels ≡ 0 → Step s e c r → onTrace c ≡ true → answered r ≡ 1
-bare-number z (starts G t l k) o = absurd (true≢false (sym o))
+-- with no level every call that looks at its trace gives 1
+pub bare-number : {s e : State} {c : Call} {r : Answer} → s .trace .levels ≡ 0 → Step s e c r → Looks c → answered r ≡ 1
+bare-number z (starts G t l k) o = absurd o
 bare-number z (puts G t k) o = first-taken (λ q. omega arith) (G .number)
+bare-number {s} {e} z (uploads {us = us} {r = r} G t k) o = upload-rows (s .trace) (s .lent) us r (e .lent) us G .trace (o .0) (o .1) .setup .row-1 .1 (λ q. omega arith)
 bare-number z (asks G t l k) o = first-taken (λ q. omega arith) (G .number)
 bare-number z (reads G t) o = first-taken (λ q. omega arith) (G .number)

@@ -1,5 +1,5 @@
 -- What holds of every state after a start: a start gives it, from any state, and each call keeps it. Assumes nothing.
-use mathlib.Core.Path.{_≡_, refl, sym, subst, _∙_}
+use mathlib.Core.Path.{_≡_, refl, sym, ap, subst, _∙_}
 use mathlib.Core.Logic.{_⊎_, inl, inr, ⊎-elim}
 use mathlib.Core.List.{List}
 use Prim.Native.Nat.{ℕ, _+_, _-_, _≤_, _<_, zero-le}
@@ -8,22 +8,27 @@ use native.Mathlib.Omega.{arith}
 use lib.IntN.{ℤ}
 use lib.ListN.{length, getD, take, replicate, length-take, List·getD-append, List·getD-eq-default}
 use lib.Seq.{getD-take}
+use Rattle.refusal.proofs.Plain.{decided}
 use Rattle.refusal.proofs.Rows.{by-outcome}
 use Rattle.geometry.specs.Coordinate.{InRange}
 use Rattle.geometry.specs.Mark.{Mark}
-use Rattle.geometry.specs.Samples.{Sample}
+use Rattle.geometry.specs.Samples.{Sample, Samples}
 use Rattle.geometry.specs.Sweep.{Ranged}
 use Rattle.costs.proofs.Meaning.{put-costs}
 use Rattle.trace.specs.declared.Trace.{Trace}
 use Rattle.trace.specs.declared.Changed.{Changed}
+use Rattle.trace.specs.declared.Uploaded.{Uploaded}
 use Rattle.trace.specs.Numbers.{Sized, Tolerances, PutNumber}
-use Rattle.trace.specs.Calls.{Buffers, heldWith, Put, NotPut, kept}
+use Rattle.trace.specs.Calls.{Buffers, heldWith, Put, NotPut, PutGives, kept}
+use Rattle.trace.specs.Upload.{zipped, notUploaded, Puts, UploadGives}
+use Rattle.trace.specs.Upload.Puts.{all-taken, one-refused, one-taken}
+use Rattle.trace.proofs.Decided.{lists-decided}
 use Rattle.trace.proofs.Passed.{start-passed, put-passed, set-each}
 use Rattle.trace.proofs.Held.{held-others}
 use Rattle.trace.proofs.Calls.{put-able, put-rewritten, buffers-is}
 use Rattle.history.specs.Run.{State, Call, Answer, Step}
 use Rattle.history.specs.Run.Call.{start}
-use Rattle.history.specs.Run.Step.{starts, puts, asks, reads}
+use Rattle.history.specs.Run.Step.{starts, puts, uploads, asks, reads}
 use Rattle.history.specs.Hold.{CostsHeld}
 
 -- the setup is that of a refused start, with no level and no sample, or a good one
@@ -107,11 +112,29 @@ put-sound s e v x r S h P t =
       setup = inr (p .0 .sized, p .0 .tolerances);
     })
 
+put-step-sound : {s e : State} {v : ℕ} {x : Sample} {r : Changed} → Sound s → PutGives (s .trace) (s .lent) v x r (e .lent) → e .trace ≡ r .trace → e .ranks ≡ s .ranks → Sound e
+put-step-sound {s} {e} {v} {x} {r} S G t k =
+    by-outcome (r .outcome) (λ d. put-sound s e v x r S (rw d at (G .number)) (G .done d) t) (λ w h. subst Sound (sym (not-put (G .refused w h) t k)) S)
+
+-- ---- upload: puts one by one, or nothing where the lists differ in length
+puts-sound : {a : Trace} {b e : Buffers} {ranks : List ℕ} {zs : List Sample} {r : Uploaded} → Sound (state a b ranks) → Puts a b zs r e → Sound (state (r .trace) e ranks)
+puts-sound S all-taken = S
+puts-sound S (one-refused G h) = put-step-sound S G refl refl
+puts-sound S (one-taken G h P) = puts-sound (put-step-sound S G refl refl) P
+
+pub by-lists : {A : Type 0} {s e : State} {us : Samples} {r : Uploaded} → UploadGives (s .trace) (s .lent) us r (e .lent) us → e .trace ≡ r .trace → e .ranks ≡ s .ranks
+    → (Puts (s .trace) (s .lent) (zipped (us .across) (us .upward) (us .marks)) r (e .lent) → e ≡ state (r .trace) (e .lent) (s .ranks) → A)
+    → (r ≡ notUploaded (s .trace) → e ≡ s → A) → A
+by-lists {us = us} G t k taken none = elim (decided _ (lists-decided us)) [
+  | yes o ↦ taken (G .puts o) (state-is t refl k)
+  | no n ↦ let P = G .unequal n in none (P .0) (state-is (t ∙ ap (λ (r : Uploaded). r .trace) (P .0)) (P .1) k)
+]
+
 -- ---- every call
 pub step-sound : {s e : State} {c : Call} {r : Answer} → Sound s → Step s e c r → Sound e
 step-sound {s} S (starts G t l k) = started-sound {s = s} (starts G t l k)
-step-sound {s} {e} S (puts {v = v} {x = x} {r = r} G t k) =
-    by-outcome (r .outcome) (λ d. put-sound s e v x r S (rw d at (G .number)) (G .done d) t) (λ w h. subst Sound (sym (not-put (G .refused w h) t k)) S)
+step-sound S (puts G t k) = put-step-sound S G t k
+step-sound S (uploads G t k) = by-lists G t k (λ P z. subst Sound (sym z) (puts-sound S P)) (λ n z. subst Sound (sym z) S)
 step-sound S (asks G t l k) = subst Sound (sym (state-is l (buffers-is (G .lent) t) k)) S
 step-sound S (reads G t) = subst Sound (sym (state-is t (G .lent) refl)) (record {
   few = S .few;

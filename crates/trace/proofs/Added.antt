@@ -1,16 +1,16 @@
--- What an upload leaves: the samples before its stop at the end of the trace, every other place as it was, and the cells of as many additions. Assumes nothing.
+-- What an upload leaves: the samples before its stop at the end of the trace, every other place as it was, and the cells of as many additions; and so do these samples alone. Assumes nothing.
 use mathlib.Core.Path.{_≡_, refl, ap, _∙_}
 use mathlib.Core.Logic.{_⊎_, inl, inr, ⊎-elim}
 use mathlib.Core.List.{List, [], _∷_}
 use Prim.Native.Nat.{ℕ, zero, suc, _+_, _*_, _≤_, _<_}
 use native.Mathlib.Nat.{add-zero}
 use native.Mathlib.Omega.{arith}
-use lib.IntN.{pos}
-use lib.ListN.{length, getD}
+use lib.IntN.{ℤ, pos}
+use lib.ListN.{length, length-take, getD, take}
 use lib.Seq.{getD-set-same, getD-set-other}
 use Rattle.refusal.specs.declared.Refusal.the-variants.{Buffer}
 use Rattle.refusal.proofs.Plain.{decided}
-use Rattle.geometry.specs.Samples.{Sample, Samples, sampleAt, store}
+use Rattle.geometry.specs.Samples.{Sample, Samples, sample, sampleAt, store}
 use Rattle.costs.specs.Costs.{sum}
 use Rattle.costs.proofs.Tally.{sum-same}
 use Rattle.trace.specs.declared.Trace.{Trace}
@@ -19,7 +19,7 @@ use Rattle.trace.specs.declared.Stop.{Stop}
 use Rattle.trace.specs.declared.Stop.the-variants as Stop
 use Rattle.trace.specs.declared.Uploaded.{Uploaded}
 use Rattle.trace.specs.Calls.{Buffers, Put, holding}
-use Rattle.trace.specs.Upload.{uploaded, zipped, Puts, UploadGives}
+use Rattle.trace.specs.Upload.{uploaded, OneLength, firsts, zipped, Puts, UploadGives}
 use Rattle.trace.specs.Upload.Puts.{all-taken, one-refused, one-taken}
 use Rattle.trace.proofs.Decided.{lists-decided}
 use Rattle.trace.proofs.Passed.{put-passed}
@@ -80,4 +80,35 @@ pub upload-leaves : (a : Trace) (b : Buffers) (us : Samples) (r : Uploaded) (e :
 upload-leaves a b us r e us′ G = elim (decided _ (lists-decided us)) [
   | yes o ↦ puts-leave (G .puts o)
   | no n ↦ let P = G .unequal n in rw (P .0, P .1) (leaves-none a b _ (Stop.Refused Buffer))
+]
+
+-- ---- samples before the stop: alone they are all taken, and lead to the same
+firsts-zipped : (q : ℕ) (xs ys : List ℤ) (ms : List ℕ) → zipped (take q xs) (take q ys) (take q ms) ≡ take q (zipped xs ys ms)
+firsts-zipped zero xs ys ms = refl
+firsts-zipped (suc q) [] ys ms = refl
+firsts-zipped (suc q) (x ∷ xs) [] ms = refl
+firsts-zipped (suc q) (x ∷ xs) (y ∷ ys) [] = refl
+firsts-zipped (suc q) (x ∷ xs) (y ∷ ys) (m ∷ ms) = ap (λ zs. sample x y m ∷ zs) (firsts-zipped q xs ys ms)
+
+firsts-length : (q : ℕ) (us : Samples) → OneLength us → OneLength (firsts q us)
+firsts-length q us o = (
+  rw (length-take q (us .across), length-take q (us .upward), o .0) refl,
+  rw (length-take q (us .across), length-take q (us .marks), o .1) refl,
+)
+
+puts-firsts : {a : Trace} {b e : Buffers} {zs : List Sample} {r : Uploaded} → Puts a b zs r e → Puts a b (take (r .added) zs) (uploaded Stop.AllTaken (r .trace) (r .added) (r .cells)) e
+puts-firsts all-taken = all-taken
+puts-firsts (one-refused {why = why} G h) = let N = G .refused why h in rw (N .trace, N .lent) all-taken
+puts-firsts (one-taken G h P) = one-taken G h (puts-firsts P)
+
+pub upload-firsts : (a : Trace) (b : Buffers) (us : Samples) (r : Uploaded) (e : Buffers) (us′ : Samples) → UploadGives a b us r e us′
+    → UploadGives a b (firsts (r .added) us) (uploaded Stop.AllTaken (r .trace) (r .added) (r .cells)) e (firsts (r .added) us)
+upload-firsts a b us r e us′ G = elim (decided _ (lists-decided us)) [
+  | yes o ↦
+      record {
+        unequal = λ n. absurd (n (firsts-length (r .added) us o));
+        puts = λ p. rw (firsts-zipped (r .added) (us .across) (us .upward) (us .marks)) (puts-firsts (G .puts o));
+        lists = refl;
+      }
+  | no n ↦ let P = G .unequal n in rw (P .0, P .1) (record { unequal = λ m. absurd (m (refl, refl)); puts = λ p. all-taken; lists = refl })
 ]

@@ -4,7 +4,6 @@ use mathlib.Core.List.{List, [], _∷_}
 use Prim.Native.Nat.{ℕ, suc, _+_, _-_}
 use native.Mathlib.Omega.{arith}
 use lib.ListN.{length, getD, replicate}
-use Rattle.refusal.specs.declared.Refusal.the-variants.{Buffer}
 use Rattle.refusal.specs.declared.Outcome.{Outcome}
 use Rattle.refusal.specs.declared.Outcome.the-variants.{Done, Refused}
 use Rattle.refusal.specs.Number.{code}
@@ -32,7 +31,7 @@ use Rattle.trace.specs.declared.Asked.the-variants as Asked
 use Rattle.trace.specs.declared.Levels.{Levels}
 use Rattle.trace.specs.Numbers.{StartNumber, PutNumber, AskNumber, ReadNumber}
 use Rattle.trace.specs.Calls.{emptyTrace, noTrace, StartGives, Buffers, buffers, heldWith, holding, PutGives, AskGives, ReadGives}
-use Rattle.trace.specs.Upload.{uploaded, zipped, Puts, UploadGives}
+use Rattle.trace.specs.Upload.{uploaded, zipped, Puts, notUploaded, UploadGives}
 use Rattle.trace.specs.Upload.Puts.{all-taken, one-refused, one-taken}
 use Rattle.trace.specs.Rows.{setupOutcome, putOutcome, askOutcome, readOutcome}
 use Rattle.trace.proofs.Decided.{lists-decided}
@@ -76,7 +75,7 @@ puts-some a b (x ∷ xs) =
 pub upload-some : (a : Trace) (b : Buffers) (us : Samples) → (r : Uploaded) × (e : Buffers) × UploadGives a b us r e us
 upload-some a b us = elim (decided _ (lists-decided us)) [
   | yes o ↦ let w = puts-some a b (zipped (us .across) (us .upward) (us .marks)) in (w .0, w .1, record { unequal = λ n. absurd (n o); puts = λ p. w .2; lists = refl })
-  | no n ↦ (uploaded (Stop.Refused Buffer) a 0 0, b, record { unequal = λ p. (refl, refl); puts = λ o. absurd (n o); lists = refl })
+  | no n ↦ (notUploaded a, b, record { unequal = λ p. (refl, refl); puts = λ o. absurd (n o); lists = refl })
 ]
 
 -- ---- ask

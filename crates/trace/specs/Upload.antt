@@ -3,12 +3,12 @@ use mathlib.Core.Path.{_≡_}
 use mathlib.Core.List.{List, [], _∷_}
 use Prim.Native.Nat.{ℕ, suc, _+_}
 use lib.IntN.{ℤ}
-use lib.ListN.{length}
+use lib.ListN.{length, take}
 use Rattle.refusal.specs.declared.Refusal.{Refusal}
 use Rattle.refusal.specs.declared.Refusal.the-variants.{Buffer}
 use Rattle.refusal.specs.declared.Outcome.the-variants.{Done, Refused}
 use Rattle.refusal.specs.Number.{number}
-use Rattle.geometry.specs.Samples.{Sample, Samples, sample}
+use Rattle.geometry.specs.Samples.{Sample, Samples, sample, samples}
 use Rattle.trace.specs.declared.Trace.{Trace}
 use Rattle.trace.specs.declared.Changed.{Changed}
 use Rattle.trace.specs.declared.Stop.{Stop}
@@ -28,6 +28,10 @@ uploaded stop a added cells = record { stop = stop; trace = a; added = added; ce
 abbrev pub OneLength : Samples → Type 0
 OneLength us = (length (us .across) ≡ length (us .upward)) × (length (us .across) ≡ length (us .marks))
 
+-- the first q of each
+abbrev pub firsts : ℕ → Samples → Samples
+firsts q us = samples (take q (us .across)) (take q (us .upward)) (take q (us .marks))
+
 -- their samples, in order
 abbrev pub zipped : List ℤ → List ℤ → List ℕ → List Sample
 zipped [] ys ms = []
@@ -43,8 +47,12 @@ pub data Puts : Trace → Buffers → List Sample → Uploaded → Buffers → T
   one-taken : {a : Trace} {b c e : Buffers} {x : Sample} {xs : List Sample} {r : Changed} {q : Uploaded} → PutGives a b (a .held) x r c → r .outcome ≡ Done → Puts (r .trace) c xs q e
       → Puts a b (x ∷ xs) (uploaded (q .stop) (q .trace) (suc (q .added)) (r .cells + q .cells)) e
 
+-- none was taken, since the lists differ in length
+abbrev pub notUploaded : Trace → Uploaded
+notUploaded a = uploaded (Stop.Refused Buffer) a 0 0
+
 -- lists of different length are refused with 3 before anything is looked at or added; else it is the puts, of which empty lists have none. The lists stay
 pub record UploadGives (a : Trace) (b : Buffers) (us : Samples) (r : Uploaded) (e : Buffers) (us′ : Samples) : Type 0 where
-  pub unequal : (OneLength us → ⊥) → (r ≡ uploaded (Stop.Refused Buffer) a 0 0) × (e ≡ b)
+  pub unequal : (OneLength us → ⊥) → (r ≡ notUploaded a) × (e ≡ b)
   pub puts : OneLength us → Puts a b (zipped (us .across) (us .upward) (us .marks)) r e
   pub lists : us′ ≡ us
