@@ -9,7 +9,9 @@ use record::Decoded;
 use refusal::Outcome;
 use trace::Asked;
 use trace::Changed;
+use trace::Stop;
 use trace::Trace;
+use trace::Uploaded;
 
 // A trace after a command, and where the line of its answer ends.
 pub(crate) struct Told {
@@ -197,6 +199,50 @@ fn put(
     changed(text, answer, crc)
 }
 
+// Why an upload stopped, as an outcome.
+fn outcome(stop: Stop) -> Outcome {
+    match stop {
+        Stop::AllTaken => Outcome::Done,
+        Stop::Refused(why) => Outcome::Refused(why),
+    }
+}
+
+// The answer to upload: f added cells n crc.
+fn uploaded(text: &mut [u8], answer: Uploaded, crc: u32) -> Told
+    ensures { λ r. ⌜ r .end ≤ length (now (text .exit)) ⌝ }
+{
+    let trace = answer.trace;
+    let stop = answer.stop;
+    let at = line::first(text, outcome(stop));
+    let at = line::next(text, at, answer.added as u64);
+    let at = line::next(text, at, answer.cells as u64);
+    let at = line::next(text, at, trace.held as u64);
+    let at = line::next(text, at, crc as u64);
+    let end = line::end(text, at);
+    Told { trace, end }
+}
+
+// upload
+fn upload(
+    steps: &[u32; 256],
+    trace: Trace,
+    xs: &mut [i16],
+    ys: &mut [i16],
+    marks: &mut [u8],
+    cells: &mut [u16],
+    ranks: &[u8],
+    across: &[i16],
+    up: &[i16],
+    restarts: &[u8],
+    text: &mut [u8],
+) -> Told
+    ensures { λ r. ⌜ r .end ≤ length (now (text .exit)) ⌝ }
+{
+    let answer = trace.upload(xs, ys, marks, cells, across, up, restarts);
+    let crc = digest::of_all(steps, xs, ys, marks, cells, ranks);
+    uploaded(text, answer, crc)
+}
+
 // One command, by its operation.
 pub(crate) fn carry_out(
     command: &[u8; 80],
@@ -207,6 +253,9 @@ pub(crate) fn carry_out(
     marks: &mut [u8],
     cells: &mut [u16],
     ranks: &mut [u8],
+    across: &[i16],
+    up: &[i16],
+    restarts: &[u8],
     text: &mut [u8],
 ) -> Told
     ensures { λ r. ⌜ r .end ≤ length (now (text .exit)) ⌝ }
@@ -220,6 +269,21 @@ pub(crate) fn carry_out(
     }
     if operation == 9 {
         return put(command, steps, trace, xs, ys, marks, cells, ranks, text);
+    }
+    if operation == 12 {
+        return upload(
+            steps,
+            trace,
+            xs,
+            ys,
+            marks,
+            cells,
+            ranks,
+            across,
+            up,
+            restarts,
+            text,
+        );
     }
     let end = stay(command, steps, trace, xs, ys, marks, cells, ranks, text);
     Told { trace, end }

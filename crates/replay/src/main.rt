@@ -4,6 +4,7 @@ mod command;
 mod digest;
 mod fill;
 mod line;
+mod lists;
 mod poke;
 mod script;
 

@@ -563,15 +563,7 @@ impl Trace {
     ) -> Uploaded
         ensures { λ r. ⌜ UploadGives self (buffers (samples (now (xs .entry)) (now (ys .entry)) (now (marks .entry))) (now (table .entry))) (samples (now (across .entry)) (now (up .entry)) (now (restarts .entry))) r (buffers (samples (now (xs .exit)) (now (ys .exit)) (now (marks .exit))) (now (table .exit))) (samples (now (across .exit)) (now (up .exit)) (now (restarts .exit))) ⌝ }
     {
-        let o = self.upload_outcome(
-            xs,
-            ys,
-            marks,
-            table,
-            across.len(),
-            up.len(),
-            restarts.len(),
-        );
+        let o = self.upload_outcome(xs, ys, marks, table, across.len(), up.len(), restarts.len());
         if let Outcome::Refused(why) = o {
             return Uploaded {
                 stop: Stop::Refused(why),

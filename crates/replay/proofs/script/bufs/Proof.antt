@@ -1,5 +1,5 @@
 -- `replay::script::bufs` is safe and ends. Assumes nothing.
-use mathlib.Core.Path.{sym}
+use mathlib.Core.Path.{refl, sym}
 use native.Mathlib.Omega.{arith}
 use lib.Seq.{length-take-le}
 use borrow.Author.Needs.{needs}
@@ -28,7 +28,7 @@ same-length : tie.Need-same-length
 same-length c = search needs
 
 returns : tie.Need-returns
-returns c = search needs
+returns c = let E = c .before .before .unknown .ensures in (rw (E .0) (c .before .before .before .before .before .before .before .before .before .before .before .before .before .before .pre), E .1, E .2)
 
 unknown-requires-2 : tie.Need-unknown-requires-2
 unknown-requires-2 c κs = search needs
@@ -37,7 +37,7 @@ same-length-2 : tie.Need-same-length-2
 same-length-2 c = search needs
 
 returns-2 : tie.Need-returns-2
-returns-2 c = search needs
+returns-2 c = let E = c .before .before .unknown2 .ensures in (rw (E .0) (c .before .before .before .before .before .before .before .before .before .before .before .before .before .before .before .pre), E .1, E .2)
 
 unknown-requires-3 : tie.Need-unknown-requires-3
 unknown-requires-3 c κs = search needs
@@ -46,7 +46,7 @@ same-length-3 : tie.Need-same-length-3
 same-length-3 c = search needs
 
 returns-3 : tie.Need-returns-3
-returns-3 c = search needs
+returns-3 c = let E = c .before .before .unknown3 .ensures in (rw (E .0) (c .before .before .before .before .before .before .before .before .before .before .before .before .before .before .before .before .pre), E .1, E .2)
 
 unknown-requires-4 : tie.Need-unknown-requires-4
 unknown-requires-4 c κs = search needs
@@ -55,7 +55,7 @@ same-length-4 : tie.Need-same-length-4
 same-length-4 c = search needs
 
 returns-4 : tie.Need-returns-4
-returns-4 c = search needs
+returns-4 c = let E = c .before .before .unknown4 .ensures in (rw (E .0) (c .before .before .before .before .before .before .before .before .before .before .before .before .before .before .before .before .before .pre), E .1, E .2)
 
 unknown-requires-5 : tie.Need-unknown-requires-5
 unknown-requires-5 c κs = search needs
@@ -64,7 +64,7 @@ same-length-5 : tie.Need-same-length-5
 same-length-5 c = search needs
 
 returns-5 : tie.Need-returns-5
-returns-5 c = search needs
+returns-5 c = let E = c .before .before .unknown5 .ensures in (rw (E .0) (c .before .before .before .before .before .before .before .before .before .before .before .before .before .before .before .before .before .before .pre), E .1, E .2)
 
 slice-relend-prefix-across : tie.Need-slice-relend-prefix-across
 slice-relend-prefix-across c = search needs
@@ -127,7 +127,7 @@ same-length-10 : tie.Need-same-length-10
 same-length-10 c = search needs
 
 returns-6 : tie.Need-returns-6
-returns-6 c = search needs
+returns-6 c = (search needs, refl, search needs)
 
 pub bufs-spec : {M : Type 1} → statement M
 bufs-spec =

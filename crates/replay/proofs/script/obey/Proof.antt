@@ -16,10 +16,10 @@ same-length : tie.Need-same-length
 same-length c = search needs
 
 returns : tie.Need-returns
-returns c = search needs
+returns c = let E = c .before .before .unknown .ensures in let P = c .before .before .before .before .before .before .before .before .before .before .before .pre in (rw (E .0) (P .0), rw (E .1) (P .1), E .2)
 
-element-copy-out-if2 : tie.Need-element-copy-out-if2
-element-copy-out-if2 c = search needs
+element-copy-out-operation : tie.Need-element-copy-out-operation
+element-copy-out-operation c = search needs
 
 bufs-requires : tie.Need-bufs-requires
 bufs-requires c κs = search needs
@@ -43,40 +43,10 @@ same-length-7 : tie.Need-same-length-7
 same-length-7 c = search needs
 
 returns-2 : tie.Need-returns-2
-returns-2 c = search needs
+returns-2 c = let E = c .before .before .before .before .before .before .before .before .before .before .bufs .ensures in (E .0, rw (E .1) (c .before .before .before .before .before .before .before .before .before .before .before .before .before .before .before .before .before .before .before .before .before .before .before .before .before .before .pre .1), E .2)
 
-slice-relend-prefix-carry-out : tie.Need-slice-relend-prefix-carry-out
-slice-relend-prefix-carry-out c = search needs
-
-slice-aggregate-carry-out : tie.Need-slice-aggregate-carry-out
-slice-aggregate-carry-out c = sym (length-take-le _ _ (omega arith))
-
-slice-relend-prefix-carry-out-2 : tie.Need-slice-relend-prefix-carry-out-2
-slice-relend-prefix-carry-out-2 c = search needs
-
-slice-aggregate-carry-out-2 : tie.Need-slice-aggregate-carry-out-2
-slice-aggregate-carry-out-2 c = sym (length-take-le _ _ (omega arith))
-
-slice-relend-prefix-carry-out-3 : tie.Need-slice-relend-prefix-carry-out-3
-slice-relend-prefix-carry-out-3 c = search needs
-
-slice-aggregate-carry-out-3 : tie.Need-slice-aggregate-carry-out-3
-slice-aggregate-carry-out-3 c = sym (length-take-le _ _ (omega arith))
-
-slice-relend-prefix-carry-out-4 : tie.Need-slice-relend-prefix-carry-out-4
-slice-relend-prefix-carry-out-4 c = search needs
-
-slice-aggregate-carry-out-4 : tie.Need-slice-aggregate-carry-out-4
-slice-aggregate-carry-out-4 c = sym (length-take-le _ _ (omega arith))
-
-slice-relend-prefix-carry-out-5 : tie.Need-slice-relend-prefix-carry-out-5
-slice-relend-prefix-carry-out-5 c = search needs
-
-slice-aggregate-carry-out-5 : tie.Need-slice-aggregate-carry-out-5
-slice-aggregate-carry-out-5 c = sym (length-take-le _ _ (omega arith))
-
-carry-out-requires : tie.Need-carry-out-requires
-carry-out-requires c κs = search needs
+list-requires : tie.Need-list-requires
+list-requires c κs = search needs
 
 same-length-8 : tie.Need-same-length-8
 same-length-8 c = search needs
@@ -90,14 +60,65 @@ same-length-10 c = search needs
 same-length-11 : tie.Need-same-length-11
 same-length-11 c = search needs
 
+returns-3 : tie.Need-returns-3
+returns-3 c = let E = c .before .before .before .before .before .before .list .ensures in (rw (E .0) (c .before .before .before .before .before .before .before .before .before .before .before .before .before .before .before .before .before .before .before .before .before .pre .0), E .1, E .2)
+
+empty-requires : tie.Need-empty-requires
+empty-requires c κs = search needs
+
+returns-4 : tie.Need-returns-4
+returns-4 c = let E = c .empty .ensures in (rw (E .0) (c .before .before .before .before .before .before .before .before .before .before .before .before .pre .0), search needs, search needs)
+
+slice-reshare-prefix-call : tie.Need-slice-reshare-prefix-call
+slice-reshare-prefix-call c = search needs
+
+slice-aggregate-call : tie.Need-slice-aggregate-call
+slice-aggregate-call c = sym (length-take-le _ _ (omega arith))
+
+slice-reshare-prefix-call-2 : tie.Need-slice-reshare-prefix-call-2
+slice-reshare-prefix-call-2 c = search needs
+
+slice-aggregate-call-2 : tie.Need-slice-aggregate-call-2
+slice-aggregate-call-2 c = sym (length-take-le _ _ (omega arith))
+
+slice-reshare-prefix-call-3 : tie.Need-slice-reshare-prefix-call-3
+slice-reshare-prefix-call-3 c = search needs
+
+slice-aggregate-call-3 : tie.Need-slice-aggregate-call-3
+slice-aggregate-call-3 c = sym (length-take-le _ _ (omega arith))
+
+call-requires : tie.Need-call-requires
+call-requires c κs = search needs
+
 same-length-12 : tie.Need-same-length-12
 same-length-12 c = search needs
 
 same-length-13 : tie.Need-same-length-13
 same-length-13 c = search needs
 
-returns-3 : tie.Need-returns-3
-returns-3 c = search needs
+same-length-14 : tie.Need-same-length-14
+same-length-14 c = search needs
+
+same-length-15 : tie.Need-same-length-15
+same-length-15 c = search needs
+
+same-length-16 : tie.Need-same-length-16
+same-length-16 c = search needs
+
+same-length-17 : tie.Need-same-length-17
+same-length-17 c = search needs
+
+same-length-18 : tie.Need-same-length-18
+same-length-18 c = search needs
+
+same-length-19 : tie.Need-same-length-19
+same-length-19 c = search needs
+
+same-length-20 : tie.Need-same-length-20
+same-length-20 c = search needs
+
+returns-5 : tie.Need-returns-5
+returns-5 c = let E = c .before .before .before .before .before .before .before .before .before .before .call .ensures in (E .0, rw (E .1) (c .before .before .before .before .before .before .before .before .before .before .before .before .before .before .before .before .before .before .before .before .before .before .before .before .before .before .before .before .before .before .before .before .pre .1), E .2)
 
 pub obey-spec : {M : Type 1} → statement M
 obey-spec =
@@ -107,7 +128,7 @@ obey-spec =
     unknown-requires
     same-length
     returns
-    element-copy-out-if2
+    element-copy-out-operation
     bufs-requires
     same-length-2
     same-length-3
@@ -116,21 +137,28 @@ obey-spec =
     same-length-6
     same-length-7
     returns-2
-    slice-relend-prefix-carry-out
-    slice-aggregate-carry-out
-    slice-relend-prefix-carry-out-2
-    slice-aggregate-carry-out-2
-    slice-relend-prefix-carry-out-3
-    slice-aggregate-carry-out-3
-    slice-relend-prefix-carry-out-4
-    slice-aggregate-carry-out-4
-    slice-relend-prefix-carry-out-5
-    slice-aggregate-carry-out-5
-    carry-out-requires
+    list-requires
     same-length-8
     same-length-9
     same-length-10
     same-length-11
+    returns-3
+    empty-requires
+    returns-4
+    slice-reshare-prefix-call
+    slice-aggregate-call
+    slice-reshare-prefix-call-2
+    slice-aggregate-call-2
+    slice-reshare-prefix-call-3
+    slice-aggregate-call-3
+    call-requires
     same-length-12
     same-length-13
-    returns-3)
+    same-length-14
+    same-length-15
+    same-length-16
+    same-length-17
+    same-length-18
+    same-length-19
+    same-length-20
+    returns-5)

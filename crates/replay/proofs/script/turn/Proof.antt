@@ -36,6 +36,15 @@ same-length-4 c = search needs
 same-length-5 : tie.Need-same-length-5
 same-length-5 c = search needs
 
+same-length-6 : tie.Need-same-length-6
+same-length-6 c = search needs
+
+same-length-7 : tie.Need-same-length-7
+same-length-7 c = search needs
+
+same-length-8 : tie.Need-same-length-8
+same-length-8 c = search needs
+
 returns : tie.Need-returns
 returns c = search needs
 
@@ -53,4 +62,7 @@ turn-spec =
     same-length-3
     same-length-4
     same-length-5
+    same-length-6
+    same-length-7
+    same-length-8
     returns)
