@@ -37,6 +37,39 @@ struct Lent {
     marks: Vec<u8>,
 }
 
+/// The three lists of an upload.
+#[derive(Default)]
+struct Lists {
+    across: Vec<i16>,
+    up: Vec<i16>,
+    marks: Vec<u8>,
+}
+
+/// What an upload has done so far: the trace, how many samples it added and how many cells it wrote.
+struct Uploaded {
+    trace: Trace,
+    added: usize,
+    cells: usize,
+}
+
+impl Uploaded {
+    /// Adds the samples up to the first refused. Refusals 1 to 5 are checked once: no put leaves what they apply to.
+    fn take(&mut self, lent: &mut Lent, new: &Lists) -> Result<(), Refusal> {
+        ensure(new.across.len() == new.up.len() && new.up.len() == new.marks.len(), 3)?;
+        if new.across.is_empty() {
+            return Ok(());
+        }
+        self.trace.check_table(lent, 0)?;
+        for ((&x, &y), &mark) in new.across.iter().zip(&new.up).zip(&new.marks) {
+            let (after, cells) = self.trace.put_checked(lent, self.trace.held, x, y, mark)?;
+            self.trace = after;
+            self.added += 1;
+            self.cells += cells;
+        }
+        Ok(())
+    }
+}
+
 /// The setup of a trace and the number of samples it holds.
 #[derive(Clone, Copy, Default)]
 struct Trace {
@@ -56,11 +89,23 @@ impl Trace {
 
     fn put(self, lent: &mut Lent, v: usize, x: i16, y: i16, mark: u8) -> Result<(Trace, usize), Refusal> {
         self.check_table(lent, 0)?;
+        self.put_checked(lent, v, x, y, mark)
+    }
+
+    /// The same where refusals 1 to 5 are known not to apply.
+    fn put_checked(self, lent: &mut Lent, v: usize, x: i16, y: i16, mark: u8) -> Result<(Trace, usize), Refusal> {
         ensure(in_range(x) && in_range(y) && mark <= RESTART, 6)?;
         ensure(v != self.held || self.held < self.capacity, 7)?;
         ensure(v <= self.held, 8)?;
         let after = Trace { held: self.held.max(v + 1), ..self };
         Ok((after, after.place(lent, v, x, y, mark)))
+    }
+
+    /// Puts the samples at the end one by one; gives what was done before the refusal, if any, that stopped it.
+    fn upload(self, lent: &mut Lent, new: &Lists) -> (Uploaded, Result<(), Refusal>) {
+        let mut uploaded = Uploaded { trace: self, added: 0, cells: 0 };
+        let stop = uploaded.take(lent, new);
+        (uploaded, stop)
     }
 
     /// The lowest sample that spoils stretch (i, j) at level k, none when it is permitted.
@@ -360,6 +405,7 @@ fn crc_of(lent: &Lent) -> u32 {
 struct Replay {
     lent: Lent,
     trace: Trace,
+    lists: Lists,
     text: String,
 }
 
@@ -383,6 +429,7 @@ fn answer<T: Default>(result: Result<T, Refusal>) -> (Refusal, T) {
 
 impl Replay {
     const ROOMS: [usize; 5] = [320, 320, 1_048_576, 320, 320];
+    const LIST_ROOM: usize = 320;
 
     /// Obeys one command; none when it is not a good one.
     fn obey(&mut self, command: &[u8]) -> Option<()> {
@@ -408,6 +455,9 @@ impl Replay {
             7 => self.read(),
             8 => self.decode(&rest[..RECORD]),
             9 => self.put(fit(a[0])?, fit(a[1])?, fit(a[2])?, fit(a[3])?),
+            10 => self.list(a[0], a[1])?,
+            11 => self.lists = Lists::default(),
+            12 => self.upload(),
             _ => return None,
         }
         Some(())
@@ -457,6 +507,23 @@ impl Replay {
         put(&mut self.text, format_args!("{refusal} {cells} {} {crc}\n", self.trace.held));
     }
 
+    fn list(&mut self, which: i32, value: i32) -> Option<()> {
+        match which {
+            0 => append(&mut self.lists.across, value),
+            1 => append(&mut self.lists.up, value),
+            2 => append(&mut self.lists.marks, value),
+            _ => None,
+        }
+    }
+
+    fn upload(&mut self) {
+        let (Uploaded { trace, added, cells }, stop) = self.trace.upload(&mut self.lent, &self.lists);
+        self.trace = trace;
+        let (refusal, ()) = answer(stop);
+        let crc = crc_of(&self.lent);
+        put(&mut self.text, format_args!("{refusal} {added} {cells} {} {crc}\n", trace.held));
+    }
+
     fn read(&mut self) {
         let (refusal, counts) = answer(self.trace.read(&mut self.lent));
         put(&mut self.text, format_args!("{refusal} {}", counts.iter().sum::<usize>()));
@@ -480,6 +547,12 @@ impl Replay {
 fn refill<T>(buffer: &mut Vec<T>, length: usize, value: impl Fn(usize) -> T) {
     buffer.clear();
     buffer.extend((0..length).map(value));
+}
+
+/// Appends the value if it fits and there is room.
+fn append<T: TryFrom<i32>>(list: &mut Vec<T>, value: i32) -> Option<()> {
+    let value = fit(value)?;
+    (list.len() < Replay::LIST_ROOM).then(|| list.push(value))
 }
 
 fn replay_text(commands: &[u8]) -> String {

@@ -4,21 +4,30 @@ a fixed choice of the random cases."""
 from itertools import combinations, product
 
 from cases_random import (ACROSS, CELL, FAULTS, MARK, NEVER_TOGETHER, RANK, TOP, UP, command, day, decode_case,
-                          foreign_case, forged_case, grow, marked_sample, own_case, record, refused_case, wild_case)
-from plain import ASK, BUFS, DECODE, NOT_PERMITTED, POKE, PUT, READ, SETUP, START
+                          foreign_case, forged_case, grow, listed, marked_sample, own_case, record, refused_case,
+                          upload, upload_case, wild_case)
+from plain import ASK, BUFS, DECODE, EMPTY, LIST, NOT_PERMITTED, POKE, PUT, READ, SETUP, START, UPLOAD
 
 RISING = tuple(range(1, 17))
 MOST = 2**31 - 1
 
 
 def every_call(places=(1, 2, 3)):
-    """Each call on a trace, with arguments that a trace of two samples takes, and samples at these places."""
-    return *(command(PUT, v, 5 + p, 6, p % 2) for p, v in enumerate(places)), command(ASK, 0, 1, 1), command(READ)
+    """Each call on a trace, with arguments that a trace of two samples takes, samples at these places, and the lists as
+    they stand."""
+    puts = [command(PUT, v, 5 + p, 6, p % 2) for p, v in enumerate(places)]
+    return *puts, command(ASK, 0, 1, 1), command(READ), command(UPLOAD)
+
+
+def only(*lists):
+    """The three lists with these values and no others."""
+    return command(EMPTY), *listed(*lists)
 
 
 def starts():
-    """Both sides of the bounds of start, the same forged, and calls on what it gives."""
+    """Both sides of the bounds of start, the same forged, and calls on what it gives; at first the lists are empty."""
     yield from every_call()
+    yield from listed([5], [6], [1])
     yield command(BUFS, 4, 4, 64, 4, 4)
     for m, N in product((0, 1, 16, 17), (1, 2, 4, 256, 257)):
         yield command(START, m, N, *RISING)
@@ -48,6 +57,7 @@ def poked_trace(m, N, n, lends):
 
 def lends():
     """Buffers exactly long enough and each one short, for n below, at and above N."""
+    yield from only([5], [6], [1])
     for n, short in product((1, 2, 3, 4), (None, ACROSS, UP, CELL, RANK, MARK)):
         lengths = [3, 3, 18, n, 3]
         if short is not None:
@@ -70,17 +80,20 @@ def places(rng):
 
 
 def refusals(rng):
-    """Each refusal of each call alone, and each two that can meet, with a read after."""
+    """Each refusal of each call alone (an upload's are in checked_late and stops), and each two that can meet, with a
+    read after."""
     for call, numbers in FAULTS.items():
         pairs = [pair for pair in combinations(numbers, 2) if pair not in NEVER_TOGETHER]
-        for faults in [(), *((number,) for number in numbers for _ in range(3)), *pairs]:
+        alone = [(number,) for number in numbers for _ in range(3) if call != UPLOAD]
+        for faults in [(), *alone, *pairs]:
             yield from refused_case(rng, call, faults)
             yield command(READ)
 
 
 def coordinates():
-    """Both sides of the bounds of new and of stored coordinates."""
+    """Both sides of the bounds of new and of stored coordinates; an upload is of a sample that no trace takes."""
     edges = 16384, 16385, -16384, -16385, 32767, -32768
+    yield from only([5], [6], [2])
     yield command(BUFS, 16, 16, 512, 16, 16)
     yield command(START, 2, 16, *RISING)
     held = 0
@@ -95,7 +108,9 @@ def coordinates():
 
 
 def mark_edges():
-    """Both sides of the bounds of new marks, also beside a bad coordinate, and of stored ones below n and past it."""
+    """Both sides of the bounds of new marks, also beside a bad coordinate, and of stored ones below n and past it; an
+    upload is of a sample that no trace takes."""
+    yield from only([16385], [6], [1])
     yield command(BUFS, 4, 4, 32, 4, 4)
     yield command(START, 2, 4, *RISING)
     held = 0
@@ -111,10 +126,13 @@ def mark_edges():
 
 
 def cell_edges():
-    """Every sort of value in every cell of four samples, each followed by a call."""
+    """Every sort of value in every cell of four samples, each followed by a call; an upload is of a sample that no
+    trace takes."""
     m, N, n = 3, 5, 4
+    yield from only([5], [-16385], [1])
     yield from poked_trace(m, N, n, [N, N, m * N * N, N, N])
-    calls = command(READ), command(PUT, 2, 3, 3), command(ASK, 0, 3, 2), command(READ), command(PUT, 4, 16385, 0)
+    calls = (command(READ), command(PUT, 2, 3, 3), command(UPLOAD), command(ASK, 0, 3, 2), command(READ),
+             command(PUT, 4, 16385, 0), command(UPLOAD))
     turn = 0
     for k, (i, j) in product(range(1, m + 1), combinations(range(n), 2)):
         most = 1 + (k - 1) * (j - i)
@@ -137,6 +155,7 @@ def unread_places(rng):
     for place in range(n, N):
         yield command(POKE, MARK, place, rng.choice([2, 17, 255]))
     yield from (command(READ), command(ASK, 0, 2, 1), command(PUT, 1, 2, 2), command(PUT, n, 9, 9), command(READ))
+    yield from (*upload([(9, 8, 1)]), command(READ))
 
 
 def dear_below():
@@ -188,7 +207,7 @@ def question_marks():
     """Commands that cannot be taken, and their nearest that can; the reads show that nothing changed."""
     yield from poked_trace(2, 3, 2, [3, 3, 18, 3, 3])
     yield command(READ)
-    for operation in 4, 5, 10, 128, 255:
+    for operation in 4, 5, 13, 128, 255:
         yield command(operation)
     yield from (command(4, 3, 3), command(5, 0, 3, 3))  # an addition and a correction, once calls of their own
     for at in 1, 2, 3:
@@ -220,6 +239,107 @@ def question_marks():
     yield command(PUT, 0, 1, 1)
 
 
+def unequal():
+    """Lists that get one value at a time, and an upload after each: to a trace that takes samples, and to one that
+    takes none. Each list comes to be the longest, the shortest, the only empty one and the only one that is not."""
+    yield command(BUFS, 16, 16, 512, 16, 16)
+    for trace in command(START, 2, 16, *RISING), command(SETUP, 0, 16, 3, *RISING):
+        yield trace
+        for turns in (0, 1, 2, 0, 2, 1, 1, 0, 2, 2, 1, 0), (2, 1, 0), (0, 2, 1), (1,):
+            yield from (command(EMPTY), command(UPLOAD))
+            for p, which in enumerate(turns):
+                yield from (command(LIST, which, p % 2 if which == 2 else 3 * p), command(UPLOAD))
+        yield command(READ)
+
+
+def checked_late():
+    """What each of the checks 1 to 5 refuses: an upload of no sample and one of unequal lists, which do not come to
+    the check, and one of a sample, which does. At last nothing that it refuses, with no ranks lent."""
+    uploads = *only(), command(UPLOAD), *listed([7], [8]), command(UPLOAD), *listed([], [], [1]), command(UPLOAD)
+    yield command(SETUP, 2, 3, 2, *RISING)
+    for lengths in (2, 3, 18, 3, 3), (3, 2, 18, 3, 3), (3, 3, 17, 3, 3), (3, 3, 18, 3, 2):
+        yield from (command(BUFS, *lengths), *uploads)
+    yield from poked_trace(2, 3, 2, [3, 3, 18, 0, 3])
+    for forged in (0, 3, 2), (17, 3, 2), (2, 1, 2), (2, 257, 2), (2, 3, 4), (2, 3, MOST):
+        yield from (command(SETUP, *forged, *RISING), *uploads)
+    for given in (0, 4), (4, 4), (4, 32769):
+        yield from (command(SETUP, 2, 3, 2, *given), *uploads)
+    yield command(SETUP, 2, 3, 2, *RISING)
+    for which, place, bad, good in (ACROSS, 1, 16385, 10), (UP, 0, -16385, 0), (MARK, 1, 2, 0), (CELL, 10, 1, 2):
+        yield from (command(POKE, which, place, bad), *uploads, command(POKE, which, place, good))
+    yield from uploads
+
+
+def bad_in_lists():
+    """A coordinate or mark out of range in the first, the second and the last of three samples."""
+    yield from (command(BUFS, 12, 12, 288, 12, 12), command(START, 2, 12, *RISING))
+    for which, bads in enumerate(((16385, -16385, -32768), (-16385, 32767, 16385), (2, 255, 2))):
+        for place, bad in enumerate(bads):
+            lists = [10, 20, 30], [which, 5, 2], [0, which % 2, 0]
+            lists[which][place] = bad
+            yield from (*only(*lists), command(UPLOAD), command(READ))
+
+
+def stops():
+    """Three samples, none or one of them bad, uploaded twice to a trace that has room for four and holds up to four:
+    all are taken, or the bad one stops it, or the first without room."""
+    yield command(BUFS, 4, 4, 32, 4, 4)
+    for bad in None, 0, 1, 2:
+        lists = [10, 20, 30], [4, 0, 9], [0, 1, 0]
+        if bad is not None:
+            lists[bad][bad] = (16385, -16385, 2)[bad]
+        yield from only(*lists)
+        for held in range(5):
+            yield command(START, 2, 4, 1, 5)
+            yield from (command(PUT, p, 10 * p, p % 2) for p in range(held))
+            yield from (command(UPLOAD), command(READ)) * 2
+
+
+def at_once(rng):
+    """The same samples put one by one and uploaded, after the same others and in the same buffers: equal reads."""
+    for kind, m, held, count in ("exact", 3, 2, 4), ("extreme", 2, 0, 5), ("saw", 5, 7, 9):
+        N = held + count + 1
+        samples = [marked_sample(rng, kind, 0.2, p) for p in range(N - 1)]
+        puts = [command(PUT, p, *one) for p, one in enumerate(samples)]
+        begin = command(BUFS, N, N, m * N * N, N, N), command(START, m, N, *RISING), *puts[:held]
+        yield from (*begin, *puts[held:], command(READ))
+        yield from (*begin, *upload(samples[held:]), command(READ))
+
+
+def lists_stay():
+    """Lists filled by turns, that stay as they are through every other operation and through uploads."""
+    yield command(EMPTY)
+    for one in (3, 4, 0), (13, 5, 1), (23, -4, 0):
+        yield from (command(LIST, which, value) for which, value in enumerate(one))
+    yield from (command(BUFS, 12, 12, 432, 12, 12), command(START, 3, 12, 1, 5, 9), command(PUT, 0, -7, -4))
+    yield from (command(UPLOAD), command(READ), command(ASK, 0, 3, 2), command(POKE, RANK, 0, 9), command(DECODE))
+    yield from (command(13), command(UPLOAD), command(READ), *listed([33], [4], [1]), command(UPLOAD), command(READ))
+    yield from (command(SETUP, 3, 12, 2, 1, 5, 9), command(UPLOAD), command(EMPTY), command(UPLOAD), command(READ))
+
+
+def list_values():
+    """Values and lists that cannot be, and commands with a byte that is not zero; uploads show that the lists stay,
+    of one bad sample at the edges of its types. Numbers that are not used may be any."""
+    yield from (command(BUFS, 2, 2, 4, 2, 2), command(START, 1, 2, 1), *upload([(32767, -32768, 255)]))
+    coordinates = product((0, 1), (32768, -32769, 65536, MOST))
+    for which, value in *coordinates, (2, 256), (2, -1), (2, MOST), (3, 0), (-1, 0), (256, 0):
+        yield from (command(LIST, which, value), command(UPLOAD))
+    for operation in LIST, EMPTY, UPLOAD:
+        yield from (bytes([operation, 0, 0, 1]) + command(operation)[4:], command(UPLOAD))
+    yield from (command(EMPTY, *[-1] * 19), command(LIST, 2, 0, *[-1] * 17), command(LIST, 1, -16384, *[-1] * 17))
+    yield from (command(LIST, 0, 16384, *[-1] * 17), command(UPLOAD, *[-1] * 19))
+
+
+def longest_lists(rng):
+    """Lists of 320 values, which take no value more, uploaded to a trace that takes 256 samples; then begun again."""
+    samples = [marked_sample(rng, "saw", 0.1, p) for p in range(320)]
+    yield from (command(BUFS, 256, 256, 65536, 256, 256), command(START, 1, 256, 3))
+    yield from (*upload(samples), command(READ))
+    for which in range(3):
+        yield from (command(LIST, which, 1), command(UPLOAD))
+    yield from (*only([1]), command(UPLOAD), *listed([], [2], [0]), command(UPLOAD))
+
+
 def decodes(rng):
     """Boundaries of a record, each spare byte, editions and boot numbers, 6 before 11, and random ones."""
     edges = 16384, 16385, -16384, -16385, 32767, -32768, -1
@@ -237,12 +357,13 @@ def decodes(rng):
 
 
 def full_size(rng):
-    """The largest trace: 256 samples, 16 levels."""
+    """The largest trace: 256 samples, 16 levels; the last forty come at once."""
     yield command(BUFS, 320, 320, 1048576, 320, 320)
     yield command(START, 16, 256, *RISING[:15], 40)
-    for p in range(256):
-        yield command(PUT, p, *marked_sample(rng, "saw" if p < 128 else "noisy", 0.02, p))
-    yield from (command(READ), command(PUT, 256, 0, 0), command(PUT, 257, 0, 0))
+    samples = [marked_sample(rng, "saw" if p < 128 else "noisy", 0.02, p) for p in range(256)]
+    yield from (command(PUT, p, *one) for p, one in enumerate(samples[:216]))
+    yield from (*upload(samples[216:]), command(READ), command(UPLOAD))
+    yield from (command(PUT, 256, 0, 0), command(PUT, 257, 0, 0))
     yield from (command(ASK, 0, 255, 16), command(ASK, 3, 9, 16))
     for v in 255, 250, 128:
         yield command(PUT, v, *marked_sample(rng, "saw", 0.5, v + 1))
@@ -252,10 +373,13 @@ def full_size(rng):
 def replay_script(rng):
     """The whole standard input of replay; its last command is cut short."""
     parts = [starts(), lends(), places(rng), refusals(rng), coordinates(), mark_edges(), cell_edges(),
-             unread_places(rng), dear_below(), asks(rng), spoilers(), marks(), question_marks(), decodes(rng)]
+             unread_places(rng), dear_below(), asks(rng), spoilers(), marks(), question_marks(), unequal(),
+             checked_late(), bad_in_lists(), stops(), at_once(rng), lists_stay(), list_values(), longest_lists(rng),
+             decodes(rng)]
     parts += [own_case(rng, 7, 3) for _ in range(70)]
     parts += [own_case(rng, 4, 16) for _ in range(6)]
     parts += [own_case(rng, 30, 5) for _ in range(10)]
+    parts += [upload_case(rng) for _ in range(8)]
     parts += [case(rng) for case in (foreign_case, forged_case, wild_case) for _ in range(25)]
     parts += [full_size(rng)]
     return b"".join(one for part in parts for one in part) + command(READ)[:79]

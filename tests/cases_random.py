@@ -3,7 +3,7 @@
 import struct
 from itertools import combinations, product
 
-from plain import ASK, BUFS, DECODE, NOT_PERMITTED, POKE, PUT, READ, SETUP, START
+from plain import ASK, BUFS, DECODE, EMPTY, LIST, NOT_PERMITTED, POKE, PUT, READ, SETUP, START, UPLOAD
 
 ACROSS, UP, CELL, RANK, MARK = range(5)
 FAULTS = {  # the refusals that can arise in each call
@@ -11,6 +11,7 @@ FAULTS = {  # the refusals that can arise in each call
     PUT: (1, 2, 3, 4, 5, 6, 7, 8),
     ASK: (1, 2, 3, 4, 5, 8),
     READ: (1, 2, 3, 4, 5, 9),
+    UPLOAD: (1, 2, 3, 4, 5, 6, 7),
 }
 NEVER_TOGETHER = {(4, 7), (4, 9), (7, 8)}
 TASTES = "none", "least", "most", "any"
@@ -53,6 +54,13 @@ def marked_sample(rng, kind, often, p):
     return *sample(rng, kind, p), int(rng.random() < often)
 
 
+def bad_sample(rng):
+    """A new sample with a coordinate or its mark out of range, or both."""
+    x, y, mark = marked_sample(rng, "noisy", 0.3, 0)
+    far = [(16385, y), (x, 16385), (-16385, y), (x, -16385), (32767, -32768)]
+    return rng.choice([(*rng.choice(far), mark), (x, y, 2), (x, y, 255), (*rng.choice(far), 2)])
+
+
 def tolerances(rng, kind, m):
     """m rising tolerances, and zeros to 16."""
     if kind == "extreme" and m <= 6:
@@ -90,6 +98,19 @@ def grow(rng, kind, often, m, N, n, spare=0):
             yield command(READ)
 
 
+def listed(*lists):
+    """These values put at the end of the three lists."""
+    for which, values in enumerate(lists):
+        yield from (command(LIST, which, value) for value in values)
+
+
+def upload(samples):
+    """An upload of these samples and no others."""
+    yield command(EMPTY)
+    yield from listed(*zip(*samples))
+    yield command(UPLOAD)
+
+
 def corrections(rng, kind, often, n, times):
     """Corrections of first, last and other samples, some taken back, some of the mark alone; reads between."""
     for v in [0, n - 1, *(rng.randrange(n) for _ in range(times))]:
@@ -114,6 +135,36 @@ def own_case(rng, most_n, most_m):
         yield command(ASK, i, j, k)
 
 
+def random_upload(rng, kind, often):
+    """An upload of up to 12 samples: now and then one is bad, a list is longer than the others or shorter, or the
+    samples come after those of the upload before."""
+    count = rng.choice([1, rng.randint(2, 5), rng.randint(0, 12)])
+    samples = [marked_sample(rng, kind, often, p) for p in range(count)]
+    if samples and rng.random() < 0.25:
+        samples[rng.randrange(count)] = bad_sample(rng)
+    lists = [[one[which] for one in samples] for which in range(3)]
+    if samples and rng.random() < 0.15:
+        odd = rng.choice(lists)
+        odd[:] = rng.choice([odd + [1], odd[1:]])
+    if rng.random() < 0.8:
+        yield command(EMPTY)
+    yield from listed(*lists)
+    yield command(UPLOAD)
+
+
+def upload_case(rng):
+    """A trace with a table of its own that takes a few uploads, with puts, asks and reads between them."""
+    kind, often, m, N = rng.choice(KINDS), rng.choice(OFTEN), rng.randint(1, 3), rng.choice([rng.randint(2, 9), 20])
+    yield from grow(rng, kind, often, m, N, rng.randint(0, min(N, 4)), N)
+    yield command(EMPTY)
+    for _ in range(rng.randint(2, 4)):
+        yield from random_upload(rng, kind, often)
+        yield command(READ)
+        if rng.random() < 0.4:
+            yield command(PUT, rng.randrange(N), *marked_sample(rng, kind, often, 0))
+            yield command(ASK, 0, rng.randrange(1, N), rng.randint(1, m))
+
+
 def foreign_case(rng):
     """A trace whose table or samples are changed behind its back, to other legal values."""
     kind, often, m, n = rng.choice(KINDS), rng.choice(OFTEN), rng.randint(1, 4), rng.randint(3, 6)
@@ -134,9 +185,16 @@ def foreign_case(rng):
     yield command(READ)
     held = n
     for _ in range(rng.randint(2, 4)):
-        v = rng.randrange(n) if rng.random() < 0.7 else held
-        held += v == held < N
-        yield command(PUT, v, *marked_sample(rng, kind, often, n))
+        shape = rng.random()
+        if shape < 0.6:
+            yield command(PUT, rng.randrange(n), *marked_sample(rng, kind, often, n))
+        elif shape < 0.8:
+            yield command(PUT, held, *marked_sample(rng, kind, often, n))
+            held = min(held + 1, N)
+        else:
+            new = [marked_sample(rng, kind, often, n) for _ in range(rng.randint(1, 3))]
+            yield from upload(new)
+            held = min(held + len(new), N)
         yield command(READ)
 
 
@@ -160,20 +218,22 @@ def spoiled_places(rng, call, m, N, n):
 
 
 def refused_call(rng, call, faults, n, N, m):
-    """The call itself, with the faults that lie in its arguments."""
-    x, y, mark = marked_sample(rng, "noisy", 0.3, 0)
+    """The call itself, with the faults that lie in its arguments; an upload's bad sample is any of its list."""
+    count = rng.randint(1, max(N - n, 1)) if call == UPLOAD else 1
+    new = [marked_sample(rng, "noisy", 0.3, p) for p in range(count)]
     if 6 in faults:
-        far = [(16385, y), (x, 16385), (-16385, y), (x, -16385), (32767, -32768)]
-        x, y, mark = rng.choice([(*rng.choice(far), mark), (x, y, 2), (x, y, 255), (*rng.choice(far), 2)])
+        new[rng.randrange(count)] = bad_sample(rng)
+    if call == UPLOAD:
+        return upload(new)
     if call == PUT:
         v = n if 7 in faults else rng.choice([n + 1, n + 2, 2**31 - 1]) if 8 in faults else rng.randrange(min(n + 1, N))
-        return command(PUT, v, x, y, mark)
+        return [command(PUT, v, *new[0])]
     if call == READ:
-        return command(READ)
+        return [command(READ)]
     i, j, k = 0, max(n - 1, 1), rng.randint(1, m)
     if 8 in faults:
         i, j, k = rng.choice([(j, j, k), (j, i, k), (i, n, k), (i, j, 0), (i, j, m + 1), (i, 2**31 - 1, k)])
-    return command(ASK, i, j, k)
+    return [command(ASK, i, j, k)]
 
 
 def refused_case(rng, call, faults):
@@ -205,7 +265,7 @@ def refused_case(rng, call, faults):
         yield command(START, *forged, *given)
     else:
         yield command(SETUP, *forged, n, *given)
-        yield refused_call(rng, call, faults, n, N, m)
+        yield from refused_call(rng, call, faults, n, N, m)
 
 
 def faults_of(rng, call):
@@ -215,8 +275,11 @@ def faults_of(rng, call):
 
 
 def forged_case(rng):
+    """A call with a few faults; after an upload one of unequal lists."""
     call = rng.choice(list(FAULTS))
     yield from refused_case(rng, call, faults_of(rng, call))
+    if call == UPLOAD:
+        yield from (command(LIST, rng.randrange(3), 1), command(UPLOAD))
     yield command(READ)
 
 
@@ -225,10 +288,12 @@ def number(rng):
 
 
 def wild_case(rng):
-    """A trace, then commands of any operation with any numbers; many print a question mark."""
+    """A trace, a list of one sample, then commands of any operation with any numbers; many print a question mark."""
     yield from grow(rng, rng.choice(KINDS), rng.choice(OFTEN), rng.randint(1, 3), 6, rng.randint(1, 5))
+    yield from (command(EMPTY), *listed([4], [3], [1]))
     for _ in range(rng.randint(5, 15)):
-        operation = rng.choice([POKE, POKE, SETUP, START, PUT, PUT, ASK, READ, DECODE, BUFS, rng.randrange(256)])
+        operation = rng.choice([POKE, POKE, SETUP, START, PUT, PUT, ASK, READ, DECODE, BUFS, LIST, EMPTY, UPLOAD,
+                                UPLOAD, rng.randrange(256)])
         numbers = [number(rng) if rng.random() < 0.3 else rng.randint(0, 6) for _ in range(19)]
         if operation == PUT and rng.random() < 0.8:
             numbers[3] %= 2
@@ -312,10 +377,12 @@ def day_list(several):
 
 def random_case(rng):
     """One case of any sort."""
-    sort = rng.choices(["small", "medium", "foreign", "forged", "wild", "decode"], [8, 1, 6, 40, 4, 6])[0]
+    sorts = {"small": 8, "medium": 1, "upload": 12, "foreign": 6, "forged": 40, "wild": 4, "decode": 6}
+    sort = rng.choices(list(sorts), list(sorts.values()))[0]
     if sort == "small":
         return own_case(rng, 7, 3) if rng.random() < 0.9 else own_case(rng, 4, 16)
     if sort == "medium":
         return own_case(rng, 30, 5)
-    cases = {"foreign": foreign_case, "forged": forged_case, "wild": wild_case, "decode": decode_case}
+    cases = {"upload": upload_case, "foreign": foreign_case, "forged": forged_case, "wild": wild_case,
+             "decode": decode_case}
     return cases[sort](rng)

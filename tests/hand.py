@@ -5,7 +5,9 @@ from array import array
 from itertools import combinations, product
 
 import plain
-from cases_random import FAULTS, NEVER_TOGETHER, record, refused_case
+from cases_fixed import at_once
+from cases_random import FAULTS, NEVER_TOGETHER, command, record, refused_case
+from plain import BUFS, EMPTY, LIST, READ, START, UPLOAD
 
 NEAR = [  # a, b, passed sample, tolerance, permitted
     ((0, 0), (10, 0), (13, 4), 5, True),
@@ -94,6 +96,64 @@ INCREASES = [  # counter, boot and edition of a record and of the next; what tha
     ((900, 0, 0), (120, 7, 1), 120, True),
     ((500, 0, 0), (900, 2, 1), 400, False),
     ((500, 2, 1), (900, 0, 0), 400, False),
+]
+UPLOADS = [  # samples held of 16, the three lists; refusal, how many were added, cells at three levels
+    (0, [], [], [], 0, 0, 0),
+    (16, [], [], [], 0, 0, 0),
+    (0, [5], [6], [1], 0, 1, 0),
+    (1, [5], [6], [1], 0, 1, 3),
+    (2, [20, 30, 40], [0, 3, 0], [1, 0, 0], 0, 3, 27),
+    (13, [1, 2, 3], [4, 5, 6], [0, 1, 1], 0, 3, 126),  # as many as there is room for
+    (14, [1, 2, 3], [4, 5, 6], [0, 1, 1], 7, 2, 87),
+    (15, [1, 2, 3], [4, 5, 6], [0, 1, 1], 7, 1, 45),
+    (16, [1, 2, 3], [4, 5, 6], [0, 1, 1], 7, 0, 0),
+    (2, [16_385, 2, 3], [4, 5, 6], [0, 1, 1], 6, 0, 0),
+    (2, [1, 2, 3], [4, -32_768, 6], [0, 1, 1], 6, 1, 6),
+    (2, [1, 2, 3], [4, 5, 6], [0, 1, 255], 6, 2, 15),
+    (2, [1, 2, 16_385], [4, 5, 6], [2, 1, 1], 6, 0, 0),
+    (2, [16_384, -16_384], [-16_384, 16_384], [0, 0], 0, 2, 15),
+    (15, [1, 2, 3], [4, 5, 6], [0, 2, 1], 6, 1, 45),  # the bad one is the first without room
+    (15, [1, 2, 3], [4, 5, 6], [0, 0, 2], 7, 1, 45),  # and here it comes after that
+    (2, [1], [4, 5], [0, 1], 3, 0, 0),
+    (2, [1, 2], [4], [0, 1], 3, 0, 0),
+    (2, [1, 2], [4, 5], [0], 3, 0, 0),
+    (2, [1, 2], [4], [0], 3, 0, 0),
+    (2, [1], [4, 5], [0], 3, 0, 0),
+    (2, [1], [4], [0, 1], 3, 0, 0),
+    (2, [1], [4], [], 3, 0, 0),
+    (2, [], [], [0], 3, 0, 0),
+    (16, [16_385, 2], [4], [2], 3, 0, 0),
+]
+LISTS = [  # commands of a trace of four samples at two levels, what each prints without the digest
+    (UPLOAD, "0 0 0 0"),
+    (LIST, 0, 10, None),
+    (UPLOAD, "3 0 0 0"),
+    (LIST, 1, -4, None),
+    (UPLOAD, "3 0 0 0"),
+    (LIST, 2, 1, None),
+    (UPLOAD, "0 1 0 1"),
+    (UPLOAD, "0 1 2 2"),  # the lists have stayed
+    (LIST, 0, 32_768, "?"),
+    (LIST, 1, -32_769, "?"),
+    (LIST, 2, 256, "?"),
+    (LIST, 2, -1, "?"),
+    (LIST, 3, 0, "?"),
+    (LIST, -1, 0, "?"),
+    (LIST, 0, -32_768, None),
+    (LIST, 1, 32_767, None),
+    (LIST, 2, 255, None),
+    (UPLOAD, "6 1 4 3"),
+    (EMPTY, None),
+    (UPLOAD, "0 0 0 3"),
+    (LIST, 2, 0, None),
+    (LIST, 2, 1, None),
+    (LIST, 0, 1, None),
+    (LIST, 0, 2, None),
+    (LIST, 1, 3, None),
+    (UPLOAD, "3 0 0 3"),
+    (LIST, 1, 4, None),
+    (UPLOAD, "7 1 6 4"),
+    (UPLOAD, "7 0 0 4"),
 ]
 BOOTED = b"\x0a\x00\x01\x00\x84\x03\x00\x00\x02\x39\x30\x01" + bytes(4)
 DAY = (b"\x00\x00\x00\x00\xf4\x01\x00\x00" + bytes(8) + b"\x0a\x00\x01\x00\x84\x03\x00\x00" + bytes(8)
@@ -202,6 +262,50 @@ def check_places():
             assert (refusal, cells, after) == (7 if v == n else 8, 0, trace), (n, v)
 
 
+def check_uploads():
+    """An upload of each of the lists leaves what putting the samples before the stop leaves; then one is read."""
+    for held, across, up, marks, *told in UPLOADS:
+        samples = [(p, p * p % 5, p % 2) for p in range(held)]
+        trace, lent = hold(samples, (1, 2, 3))
+        *found, after = plain.upload(trace, lent, across, up, marks)
+        added = list(zip(across, up, marks))[:told[1]]
+        assert found == told and (after, lent) == hold(samples + added, (1, 2, 3)), (held, across, up, marks)
+    trace, lent = hold([], (1, 4, 16))
+    trace = plain.upload(trace, lent, *zip(*mark(FIVE, 2)))[3]
+    assert plain.read(trace, lent)[:2] == (0, 7) and list(lent.ranks[:5]) == [3, 0, 3, 1, 3]
+
+
+def check_unchecked_uploads():
+    """Only a sample to add brings on the checks 1 to 5; no sample is good and unequal lists are 3 whatever is given."""
+    trace, lent = hold(mark(LINE, 2), (1, 2))
+    faults = [(1, plain.NO_TRACE, lent), (2, trace._replace(tolerances=(4, 4)), lent),
+              (3, trace, lent._replace(marks=lent.marks[:15])), (4, trace._replace(n=17), lent),
+              (5, trace._replace(n=4), lent)]
+    for refusal, given, lends in faults:
+        before = [part[:] for part in lends]
+        assert plain.upload(given, lends, [], [], []) == (0, 0, 0, given), refusal
+        assert plain.upload(given, lends, [1, 2], [1, 2], [0]) == (3, 0, 0, given), refusal
+        assert plain.upload(given, lends, [1, 2], [1, 2], [0, 0]) == (refusal, 0, 0, given), refusal
+        assert before == list(lends), refusal
+
+
+def check_lists():
+    """What the commands print, the room of each list, and reads after puts and after an upload of the same samples."""
+    said = plain.Replay()
+    said.answer(command(BUFS, 4, 4, 32, 4, 4))
+    said.answer(command(START, 2, 4, 1, 5))
+    for *numbers, expected in LISTS:
+        line = said.answer(command(*numbers))
+        found = line.rsplit(" ", 1)[0] if line else None
+        assert found == expected, (numbers, line)
+    for which in range(3):
+        said.answer(command(EMPTY))
+        assert [said.answer(command(LIST, which, 1)) for _ in range(322)] == [None] * 320 + ["?"] * 2, which
+    script = b"".join(at_once(random.Random(0)))
+    reads = [line for _, operation, line in plain.replay(script) if operation == READ]
+    assert reads[::2] == reads[1::2] and len(set(reads)) == len(reads) // 2 > 1, reads
+
+
 def check_lowest():
     """Up to three faults put into a call on purpose: it must give the lowest."""
     rng = random.Random(0)
@@ -234,5 +338,8 @@ def check():
     check_refusals()
     check_lent_marks()
     check_places()
+    check_uploads()
+    check_unchecked_uploads()
+    check_lists()
     check_lowest()
     check_records()

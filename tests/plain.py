@@ -279,6 +279,22 @@ def put(trace, lent, v, x, y, mark):
     return 0, rewrite(after, lent, v), after
 
 
+def upload(trace, lent, across, up, marks):
+    """Puts the samples of three lists at the end, one by one, up to the first refused.
+
+    Returns its number of refusal, 0 when all are taken, how many were added, their cells and the trace.
+    """
+    if not len(across) == len(up) == len(marks):
+        return 3, 0, 0, trace
+    added, cells = 0, 0
+    for new in zip(across, up, marks):
+        refusal, more, trace = put(trace, lent, trace.n, *new)
+        if refusal:
+            return refusal, added, cells, trace
+        added, cells = added + 1, cells + more
+    return 0, added, cells, trace
+
+
 def ask(trace, lent, i, j, k):
     refusal = lowest(*setup_checks(trace),
                      (3, lambda: short_samples(trace, lent)),
@@ -404,19 +420,24 @@ def days(data):
 # ---- Replay --------------------------------------------------------------------------------------------
 
 BUFS, SETUP, POKE, START = range(4)
-ASK, READ, DECODE, PUT = range(6, 10)
-UNSIGNED, SIGNED16, BYTE = (0, 2**31 - 1), (-2**15, 2**15 - 1), (0, 2**8 - 1)
+ASK, READ, DECODE, PUT, LIST, EMPTY, UPLOAD = range(6, 13)
+UNSIGNED, SIGNED32, SIGNED16, BYTE = (0, 2**31 - 1), (-2**31, 2**31 - 1), (-2**15, 2**15 - 1), (0, 2**8 - 1)
 ARGUMENTS = {  # the range of each number that the operation uses
     BUFS: [(0, 320), (0, 320), (0, 1_048_576), (0, 320), (0, 320)],
     SETUP: [UNSIGNED] * 19,
-    POKE: [(0, 4), UNSIGNED, (-2**31, 2**31 - 1)],
+    POKE: [(0, 4), UNSIGNED, SIGNED32],
     START: [UNSIGNED] * 18,
     ASK: [UNSIGNED] * 3,
     READ: [],
     DECODE: [],
     PUT: [UNSIGNED, SIGNED16, SIGNED16, BYTE],
+    LIST: [(0, 2), SIGNED32],
+    EMPTY: [],
+    UPLOAD: [],
 }
 POKED = [SIGNED16, SIGNED16, (0, 2**16 - 1), BYTE, BYTE]
+LISTED = [SIGNED16, SIGNED16, BYTE]
+LIST_ROOM = 320
 
 
 def filled(kind, length, factor, offset):
@@ -434,6 +455,7 @@ class Replay:
         self.trace = NO_TRACE
         self.own_table = True  # every cell of the trace was written by calls of this trace
         self.bufs(0, 0, 0, 0, 0)
+        self.empty()
 
     def answer(self, command):
         """The line that a command prints, None when it prints nothing."""
@@ -448,7 +470,7 @@ class Replay:
         if any(not low <= number <= high for number, (low, high) in zip(numbers, ranges)):
             return "?"
         calls = {BUFS: self.bufs, SETUP: self.setup, POKE: self.poke, START: self.start, ASK: self.ask,
-                 READ: self.read, PUT: self.put}
+                 READ: self.read, PUT: self.put, LIST: self.append, EMPTY: self.empty, UPLOAD: self.upload}
         return calls[operation](*numbers)
 
     def checksum(self):
@@ -485,6 +507,21 @@ class Replay:
         if not refusal and self.own_table:
             compare_costs(self.trace, self.lent)
         return f"{refusal} {cells} {self.trace.n} {self.checksum()}"
+
+    def append(self, which, value):
+        low, high = LISTED[which]
+        if len(self.lists[which]) == LIST_ROOM or not low <= value <= high:
+            return "?"
+        self.lists[which].append(value)
+
+    def empty(self):
+        self.lists = [], [], []
+
+    def upload(self):
+        refusal, added, cells, self.trace = upload(self.trace, self.lent, *self.lists)
+        if added and self.own_table:
+            compare_costs(self.trace, self.lent)
+        return f"{refusal} {added} {cells} {self.trace.n} {self.checksum()}"
 
     def ask(self, i, j, k):
         refusal, found = ask(self.trace, self.lent, i, j, k)
