@@ -476,6 +476,7 @@ impl Trace {
             let x = across[i];
             let y = up[i];
             let next = trace.admit(xs, ys, marks, table, trace.held, x, y, restarts[i]);
+            let after = i + 1;
             let o = next.outcome;
             if let Outcome::Refused(why) = o {
                 return Uploaded {
@@ -487,7 +488,7 @@ impl Trace {
             }
             trace = next.trace;
             cells += next.cells;
-            i += 1;
+            i = after;
         }
         Uploaded {
             stop: Stop::AllTaken,

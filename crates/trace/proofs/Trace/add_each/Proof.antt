@@ -68,6 +68,13 @@ admit-requires c κs =
     let l = c .before .before .before .before .before .before .before in
     l .before .loop .inv .ready (left l)
 
+add-after : tie.Need-add-after Inv-loop μ-loop
+add-after c =
+    let l = c .before .before .before .before .before .before .before .before .before .before .before .before .before .before in
+    let U = l .before .loop .inv in
+    let P = U .ready (left l) .0 in
+    omega (arith, U .within, P .held, P .sized .3)
+
 enum-known-o : tie.Need-enum-known-o Inv-loop μ-loop
 enum-known-o c = search needs
 
@@ -99,13 +106,6 @@ add-cells c =
     let U = l .before .loop .inv in
     let P = U .ready (left l) .0 in
     omega (arith, U .within, U .few, P .held, P .sized .3, next-few U (left l) (next d) (c .before .before .enum-told .given .1))
-
-add-i : tie.Need-add-i Inv-loop μ-loop
-add-i c =
-    let l = c .before .before .before .before .before .before .before .before .before .before .before .before .before .before .before .before .before .before in
-    let U = l .before .loop .inv in
-    let P = U .ready (left l) .0 in
-    omega (arith, U .within, P .held, P .sized .3)
 
 loop-less : tie.Need-loop-less Inv-loop μ-loop
 loop-less c = search needs
@@ -147,6 +147,7 @@ add-each-spec =
     shared-slice-copy-out-y
     shared-slice-read-admit
     admit-requires
+    add-after
     enum-known-o
     same-length
     same-length-2
@@ -155,7 +156,6 @@ add-each-spec =
     returns
     enum-told
     add-cells
-    add-i
     loop-less
     loop-again
     same-length-5
