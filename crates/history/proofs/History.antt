@@ -1,7 +1,7 @@
 -- The theorems of any sequence of calls, refused ones included. Assumes nothing.
 use mathlib.Core.Path.{_≡_, refl, sym, ap, subst, _∙_}
 use mathlib.Core.Bool.{true, true≢false}
-use mathlib.Core.List.{List, [], _∷_}
+use mathlib.Core.List.{List, [], _∷_, map}
 use Prim.Native.Nat.{ℕ, suc, _+_}
 use native.Mathlib.Numerals.{add-one}
 use native.Mathlib.Omega.{arith}
@@ -162,8 +162,8 @@ puts-run ranks (one-refused {why = why} G h) = let N = G .refused why h in rw (N
 puts-run {a} {b} {e} ranks (one-taken {c = c} {x = x} {xs = xs} {r = r} {q = q} G h P) =
     let R = puts-run ranks P in
     let n : r .trace .held ≡ suc (a .held) = ap (λ (c : Trace). c .held) (put-adds a b (a .held) x r c G h refl .trace) ∙ add-one (a .held) in
-    let run = subst (λ m. Run (state (r .trace) c ranks) (putsFrom m (take (q .added) xs)) (R .answers) (state (q .trace) e ranks)) n (R .run) in
-    record { answers = changed r ∷ R .answers; run = next (puts G refl refl) run; cells = rw (R .cells) refl }
+    let run = subst (λ m. Run (state (r .trace) c ranks) (putsFrom m (take (q .added) xs)) (map changed (R .answers)) (state (q .trace) e ranks)) n (R .run) in
+    record { answers = r ∷ R .answers; run = next (puts G refl refl) run; cells = rw (R .cells) refl }
 
 pub upload-run : {s e : State} {us : Samples} {r : Uploaded} → Step s e (upload us) (uploaded r) → AsPuts s e (zipped (us .across) (us .upward) (us .marks)) r
 upload-run {s} {e} {us} {r} (uploads G t k) =

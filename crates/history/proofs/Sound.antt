@@ -23,9 +23,9 @@ use Rattle.trace.specs.Calls.{Buffers, heldWith, Put, NotPut, PutGives, kept}
 use Rattle.trace.specs.Upload.{zipped, notUploaded, Puts, UploadGives}
 use Rattle.trace.specs.Upload.Puts.{all-taken, one-refused, one-taken}
 use Rattle.trace.proofs.Decided.{lists-decided}
-use Rattle.trace.proofs.Passed.{start-passed, put-passed, set-each}
+use Rattle.trace.proofs.Passed.{start-passed, put-passed}
 use Rattle.trace.proofs.Held.{held-others}
-use Rattle.trace.proofs.Calls.{put-able, put-rewritten, buffers-is}
+use Rattle.trace.proofs.Calls.{put-able, put-rewritten, put-keeps, buffers-is}
 use Rattle.history.specs.Run.{State, Call, Answer, Step}
 use Rattle.history.specs.Run.Call.{start}
 use Rattle.history.specs.Run.Step.{starts, puts, uploads, asks, reads}
@@ -100,14 +100,14 @@ put-sound s e v x r S h P t =
     let A = put-able a b v x h in
     let R = A .ready in
     let z = R .sizes in
-    let others = held-others (a .held) v (p .3) in
+    let K = (rw (P .trace, P .samples) at (put-keeps h P)) .0 in
     subst Sound (sym (state-is (t ∙ P .trace) (buffers-is (P .samples) refl) refl)) (record {
       few = z .1;
       small = z .2;
       held = z .4;
       ranged = R .ranged;
-      marks = set-each 0 Mark (b .samples .marks) v _ (x .mark) (z .3) (R .marks) (p .2 .2) (λ q l d. S .marks q (others q l d));
-      costs = put-costs (a .capacity) (b .samples) (a .tolerances) x (a .levels) v (a .held) _ (b .table) (e .lent .table) (S .few) (S .small) (S .held) (S .ranged) others (z .4) (R .ranged)
+      marks = λ q l. K .stored q l .2;
+      costs = put-costs (a .capacity) (b .samples) (a .tolerances) x (a .levels) v (a .held) _ (b .table) (e .lent .table) (S .few) (S .small) (S .held) (S .ranged) (held-others (a .held) v (p .3)) (z .4) (R .ranged)
           (put-rewritten A P) (S .costs);
       setup = inr (p .0 .sized, p .0 .tolerances);
     })

@@ -1,7 +1,7 @@
 -- What holds of a state, and what a call may change. Assumes nothing.
 use mathlib.Core.Path.{_≡_}
 use mathlib.Core.Bool.{Bool, true, false, _&&_, cond}
-use mathlib.Core.List.{List, [], _∷_, List·Memᴰ as In}
+use mathlib.Core.List.{List, [], _∷_, map, List·Memᴰ as In}
 use Prim.Native.Nat.{ℕ, suc, _+_, _-_, _≤_, _<_}
 use lib.Dec.{eqb}
 use lib.IntN.{pos}
@@ -12,6 +12,7 @@ use Rattle.family.specs.Levels as Levels
 use Rattle.table.specs.Table.{at, cell}
 use Rattle.costs.specs.Costs.{Permit, Named}
 use Rattle.readout.specs.Read.{rank}
+use Rattle.trace.specs.declared.Changed.{Changed}
 use Rattle.trace.specs.declared.Uploaded.{Uploaded}
 use Rattle.trace.specs.declared.Levels.{Levels}
 use Rattle.trace.specs.Calls.{heldWith, holding, noTrace}
@@ -128,21 +129,17 @@ abbrev pub allOnTrace : List Call → Bool
 allOnTrace [] = true
 allOnTrace (c ∷ cs) = onTrace c && allOnTrace cs
 
--- the puts of these samples from place n on, and the cells that answers count
+-- the puts of these samples from place n on, and the cells that their answers count
 abbrev pub putsFrom : ℕ → List Sample → List Call
 putsFrom n [] = []
 putsFrom n (x ∷ xs) = put n x ∷ putsFrom (suc n) xs
 
-abbrev pub cellsOf : List Answer → ℕ
+abbrev pub cellsOf : List Changed → ℕ
 cellsOf [] = 0
-cellsOf (started r ∷ rs) = cellsOf rs
-cellsOf (changed r ∷ rs) = r .cells + cellsOf rs
-cellsOf (uploaded r ∷ rs) = r .cells + cellsOf rs
-cellsOf (said r ∷ rs) = cellsOf rs
-cellsOf (levels r ∷ rs) = cellsOf rs
+cellsOf (r ∷ rs) = r .cells + cellsOf rs
 
 -- from s to e, with the answer r, as the puts of the samples added would have led
 pub record AsPuts (s e : State) (zs : List Sample) (r : Uploaded) : Type 0 where
-  pub answers : List Answer
-  pub run : Run s (putsFrom (s .trace .held) (take (r .added) zs)) answers e
+  pub answers : List Changed
+  pub run : Run s (putsFrom (s .trace .held) (take (r .added) zs)) (map changed answers) e
   pub cells : cellsOf answers ≡ r .cells

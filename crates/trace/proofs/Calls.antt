@@ -81,14 +81,14 @@ put-rewritten {a} {b} {e} {v} {n} {x} A P =
     cells-rewritten (a .capacity) (store (b .samples) v x) (a .tolerances) (a .levels) v n (b .table) (z .1) (omega arith) (z .4) (R .ranged) (A .fine)
     (e .table) (rw (P .samples) at (P .cells))
 
--- a put leaves what checks 1 to 5 pass
-pub put-keeps : {a : Trace} {b e : Buffers} {v : ℕ} {x : Sample} {r : Changed} → PutGives a b v x r e → r .outcome ≡ Done → Passed (r .trace) (e .samples) × PassedTable (r .trace) (e .table)
-put-keeps {a} {b} {e} {v} {x} {r} G d =
+-- a sample put leaves what checks 1 to 5 pass
+pub put-keeps : {a : Trace} {b e : Buffers} {v : ℕ} {x : Sample} {r : Changed} → PutNumber a (b .samples) (b .table) v x 0 → Put a b v (heldWith (a .held) v) x r e
+    → Passed (r .trace) (e .samples) × PassedTable (r .trace) (e .table)
+put-keeps {a} {b} {e} {v} {x} h P =
     let s = b .samples in
-    let p = put-passed a s (b .table) v x (rw d at (G .number)) in
-    let A = put-able a b v x (rw d at (G .number)) in
+    let p = put-passed a s (b .table) v x h in
+    let A = put-able a b v x h in
     let z = A .ready .sizes in
-    let P = G .done d in
     let others = held-others (a .held) v (p .3) in
     rw (P .trace, P .samples) (
       record {

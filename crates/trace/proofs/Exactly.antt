@@ -135,7 +135,7 @@ stop-rows {a} {b} p (one-refused {x = x} {why = why} G h) =
       only = first-has (Later 5) (inr (omega arith)) (first-has (Later 5) (inr (omega arith)) inl) f;
     }
 stop-rows {a} {b} p (one-taken {x = x} {xs = xs} {r = r} {q = q} G h P) =
-    let s = rw (put-adds a b (a .held) x r _ G h refl .trace) at (stop-rows (put-keeps G h) P) in
+    let s = rw (put-adds a b (a .held) x r _ G h refl .trace) at (stop-rows (put-keeps (rw h at (G .number)) (G .done h)) P) in
     record {
       taken = both s (put-passed a (b .samples) (b .table) (a .held) x (rw h at (G .number)));
       row-6 = (λ e. let z = s .row-6 .0 e in (omega (arith, z .0), z .1), λ z. s .row-6 .1 (omega (arith, z .0), z .1));
@@ -162,7 +162,7 @@ first-sample {a} {b} (one-refused {x = x} H h) l = put-rows a (b .samples) (b .t
 first-sample {a} {b} (one-taken {x = x} H h P) l =
     let p = put-passed a (b .samples) (b .table) (a .held) x (rw h at (H .number)) in
     trace-rows a (lent-table a (b .samples) (b .table)) (stored-decided a (b .samples) (b .table)) {rest = Later 5} (λ k s. s)
-    (inr (λ n. n (p .0 .sized), inr (λ n. n (p .0 .tolerances), inr (λ n. n (p .0 .lent, p .1 .room), inr (λ n. omega arith, inr (λ n. n (p .0 .stored, p .1 .cells), stop-rows (put-keeps H h) P .only))))))
+    (inr (λ n. n (p .0 .sized), inr (λ n. n (p .0 .tolerances), inr (λ n. n (p .0 .lent, p .1 .room), inr (λ n. omega arith, inr (λ n. n (p .0 .stored, p .1 .cells), stop-rows (put-keeps (rw h at (H .number)) (H .done h)) P .only))))))
 
 pub record UploadRows (a : Trace) (b : Buffers) (us : Samples) (r : Uploaded) : Type 0 where
   -- lists of different length are refused with 3, before every other check

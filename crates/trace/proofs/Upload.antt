@@ -155,5 +155,5 @@ module _ {a c : Trace} {b d : Buffers} {zs : List Sample} {i cells : ℕ} (U : U
         within = rw (put-adds c d (c .held) _ r f G h refl .trace) (omega (arith, U .within));
         few = omega (arith, U .few, next-few);
         room = room-on (U .room) (put-room G);
-        ready = λ m. put-keeps G h;
+        ready = λ m. put-keeps (rw h at (G .number)) (G .done h);
       }
