@@ -63,19 +63,19 @@ pub record Touched (P : ℕ → Type 0) (Q : ℕ → ℕ → ℕ → Type 0) (s 
   pub cells : (a : ℕ) → ((k i j : ℕ) → Q k i j → a ≡ at (s .trace .capacity) k i j → ⊥) → getD (e .lent .table) a 0 ≡ getD (s .lent .table) a 0
   pub ranks : e .ranks ≡ s .ranks
 
--- the places from n on up to n′, and the stretches of levels 1 to m that end there
-abbrev pub Between : ℕ → ℕ → ℕ → Type 0
-Between n n′ q = (n ≤ q) × (q < n′)
-
-abbrev pub Ending : ℕ → ℕ → ℕ → ℕ → ℕ → ℕ → Type 0
-Ending m n n′ k i j = (1 ≤ k) × (k ≤ m) × (i < j) × Between n n′ j
-
 -- and here the ranks of the samples held
 pub record Ranked (s e : State) : Type 0 where
   pub trace : e .trace ≡ s .trace
   pub lent : e .lent ≡ s .lent
   pub places : length (e .ranks) ≡ length (s .ranks)
   pub ranks : (x : ℕ) → s .trace .held ≤ x → rank (e .ranks) x ≡ rank (s .ranks) x
+
+-- the places from n on up to n′, and the stretches of levels 1 to m that end there
+abbrev pub Between : ℕ → ℕ → ℕ → Type 0
+Between n n′ q = (n ≤ q) × (q < n′)
+
+abbrev pub Ending : ℕ → ℕ → ℕ → ℕ → ℕ → ℕ → Type 0
+Ending m n n′ k i j = (1 ≤ k) × (k ≤ m) × (i < j) × Between n n′ j
 
 -- what each call may change
 abbrev pub MayChange : Call → State → State → Type 0

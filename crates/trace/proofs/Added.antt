@@ -14,7 +14,6 @@ use Rattle.geometry.specs.Samples.{Sample, Samples, sample, sampleAt, store}
 use Rattle.costs.specs.Costs.{sum}
 use Rattle.costs.proofs.Tally.{sum-same}
 use Rattle.trace.specs.declared.Trace.{Trace}
-use Rattle.trace.specs.declared.Changed.{Changed}
 use Rattle.trace.specs.declared.Stop.{Stop}
 use Rattle.trace.specs.declared.Stop.the-variants as Stop
 use Rattle.trace.specs.declared.Uploaded.{Uploaded}

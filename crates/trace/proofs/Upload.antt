@@ -1,12 +1,11 @@
 -- An upload as the code makes it: its lists, what refuses it before its first sample, and a loop that is some samples on its way. Assumes nothing.
-use mathlib.Core.Path.{_≡_, refl, sym, ap, subst, _∙_}
+use mathlib.Core.Path.{_≡_, refl, sym, ap, _∙_}
 use mathlib.Core.Bool.{Bool, true, false, cond}
 use mathlib.Core.List.{List, [], _∷_}
 use Prim.Native.Nat.{ℕ, zero, suc, _+_, _*_, _≤_, _<_}
 use native.Mathlib.Nat.{zero-add, add-zero, add-assoc, mul-le-mul}
 use native.Mathlib.Numerals.{add-one}
 use native.Mathlib.Omega.{arith}
-use lib.Dec.{eqb}
 use lib.IntN.{ℤ, pos}
 use lib.ListN.{length, length-set, getD, drop, drop-of-length-le}
 use lib.Seq.{drop-cons}
@@ -26,7 +25,7 @@ use Rattle.trace.specs.declared.Uploaded.{Uploaded}
 use Rattle.trace.specs.Calls.{Buffers, PutGives}
 use Rattle.trace.specs.Upload.{OneLength, zipped, uploaded, Puts, UploadGives}
 use Rattle.trace.specs.Upload.Puts.{all-taken, one-refused, one-taken}
-use Rattle.trace.specs.Rows.{listsOk, traceOutcome, uploadOutcome, Passed, PassedTable}
+use Rattle.trace.specs.Rows.{traceOutcome, uploadOutcome, Passed, PassedTable}
 use Rattle.trace.proofs.Decided.{lists-decided}
 use Rattle.trace.proofs.Numbers.{put-stopped}
 use Rattle.trace.proofs.Passed.{trace-passed, put-passed}
@@ -130,7 +129,13 @@ pub record Underway (a : Trace) (b : Buffers) (zs : List Sample) (i cells : ℕ)
   pub ready : i < length zs → Passed c (d .samples) × PassedTable c (d .table)
 
 pub underway-none : {a : Trace} {b : Buffers} {zs : List Sample} → (0 < length zs → Passed a (b .samples) × PassedTable a (b .table)) → Underway a b zs 0 0 a b
-underway-none h = record { leads = λ q e P. rw (zero-add (q .added), zero-add (q .cells)) P; within = omega arith; few = omega arith; room = record { across = refl; upward = refl; marks = refl; table = refl }; ready = h }
+underway-none h = record {
+  leads = λ q e P. rw (zero-add (q .added), zero-add (q .cells)) P;
+  within = omega arith;
+  few = omega arith;
+  room = record { across = refl; upward = refl; marks = refl; table = refl };
+  ready = h;
+}
 
 module _ {a c : Trace} {b d : Buffers} {zs : List Sample} {i cells : ℕ} (U : Underway a b zs i cells c d) where
   -- no sample is left

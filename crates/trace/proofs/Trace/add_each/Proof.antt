@@ -1,5 +1,5 @@
 -- `trace::Trace::add_each` meets its contract. The invariant: i samples are on their way. The measure is how many are left. Assumes nothing.
-use mathlib.Core.Path.{_≡_, refl}
+use mathlib.Core.Path.{refl}
 use Prim.Native.Nat.{_-_, _<_}
 use native.Mathlib.Omega.{arith}
 use lib.IntN.{pos}
