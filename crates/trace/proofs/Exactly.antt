@@ -1,12 +1,11 @@
 -- Exactly when each number of the paper's table is given, call by call: `k ≡ number ↔ (what passed before it) × (its row)`, and 0 where every check passes. Assumes nothing.
 use mathlib.Core.Path.{_≡_, refl, ap, _∙_}
-use mathlib.Core.Logic.{inl, inr, ⊎-elim, _↔_}
+use mathlib.Core.Logic.{_⊎_, inl, inr, ⊎-elim, _↔_}
 use mathlib.Core.Bool.{Bool}
 use mathlib.Core.List.{List, _∷_}
 use Prim.Native.Nat.{ℕ, zero, suc, _+_, _≤_, _<_}
 use native.Mathlib.Omega.{arith}
 use lib.ListN.{length, getD}
-use Rattle.refusal.specs.Number.{number}
 use Rattle.refusal.specs.Check.{Decides, First}
 use Rattle.refusal.proofs.Rows.{numbered, first-is, first-later, first-has, Later, Above, above-none, above-first, reached-none, reached-next, reached-row, reached-all}
 use Rattle.geometry.specs.Samples.{Sample, Samples}
@@ -101,6 +100,15 @@ next-number a xs t x p h =
     let f = table-past a xs t {rest = First 6 (Valid x → ⊥) (PlaceNumber a (a .held) Good)} h .next p in
     ⊎-elim inl (λ s. inr (s .0, ⊎-elim (λ z. inl (z .0 .1, z .1)) (λ z. inr (λ e. z .0 (refl, e), ⊎-elim (λ l. absurd (omega arith)) (λ l. l .1) (z .1))) (s .1))) f
 
+-- the numbers that are left: all taken, 6 and 7
+abbrev pub Left : ℕ → Type 0
+Left k = (k ≡ 0) ⊎ (k ≡ 6) ⊎ (k ≡ 7)
+
+left-later : {k : ℕ} → Left k → Later 5 k
+left-later (inl e) = inl e
+left-later (inr (inl e)) = inr (omega arith)
+left-later (inr (inr e)) = inr (omega arith)
+
 -- where an upload to a trace that 1 to 5 pass stops
 pub record StopRows (a : Trace) (zs : List Sample) (r : Uploaded) : Type 0 where
   -- each sample before the stop is valid and found room
@@ -111,8 +119,8 @@ pub record StopRows (a : Trace) (zs : List Sample) (r : Uploaded) : Type 0 where
   pub row-7 : stopped (r .stop) ≡ 7 ↔ (r .added < length zs) × Valid (getD zs (r .added) noSample) × (a .held + r .added ≡ a .capacity)
   -- there is no next
   pub row-0 : stopped (r .stop) ≡ 0 ↔ r .added ≡ length zs
-  -- no other number is left
-  pub only : Later 5 (stopped (r .stop))
+  -- there is no other number
+  pub only : Left (stopped (r .stop))
 
 pub stop-rows : {a : Trace} {b e : Buffers} {zs : List Sample} {r : Uploaded} → Passed a (b .samples) × PassedTable a (b .table) → Puts a b zs r e → StopRows a zs r
 stop-rows p all-taken = record {
@@ -123,7 +131,6 @@ stop-rows p all-taken = record {
   only = inl refl;
 }
 stop-rows {a} {b} p (one-refused {x = x} {why = why} G h) =
-    let k = number why in
     let f = next-number a (b .samples) (b .table) x p (rw h at (G .number)) in
     let six = first-is (first-has (λ k. k ≡ 6 → ⊥) (λ e. omega arith) (λ z e. omega arith)) f in
     let seven = first-later _ (sample-decided x) (λ e. omega arith) (first-is (λ z e. omega arith)) f in
@@ -132,7 +139,7 @@ stop-rows {a} {b} p (one-refused {x = x} {why = why} G h) =
       row-6 = (λ e. (omega arith, six .0 e), λ s. six .1 (s .1));
       row-7 = (λ e. let s = seven .0 e in (omega arith, s .0, omega (arith, s .1)), λ s. seven .1 (s .1, omega (arith, s .2)));
       row-0 = (λ e. absurd (numbered why e), λ e. absurd (omega arith));
-      only = first-has (Later 5) (inr (omega arith)) (first-has (Later 5) (inr (omega arith)) inl) f;
+      only = first-has Left (inr (inl refl)) (first-has Left (inr (inr refl)) inl) f;
     }
 stop-rows {a} {b} p (one-taken {x = x} {xs = xs} {r = r} {q = q} G h P) =
     let s = rw (put-adds a b (a .held) x r _ G h refl .trace) at (stop-rows (put-keeps (rw h at (G .number)) (G .done h)) P) in
@@ -162,7 +169,7 @@ first-sample {a} {b} (one-refused {x = x} H h) l = put-rows a (b .samples) (b .t
 first-sample {a} {b} (one-taken {x = x} H h P) l =
     let p = put-passed a (b .samples) (b .table) (a .held) x (rw h at (H .number)) in
     trace-rows a (lent-table a (b .samples) (b .table)) (stored-decided a (b .samples) (b .table)) {rest = Later 5} (λ k s. s)
-    (inr (λ n. n (p .0 .sized), inr (λ n. n (p .0 .tolerances), inr (λ n. n (p .0 .lent, p .1 .room), inr (λ n. omega arith, inr (λ n. n (p .0 .stored, p .1 .cells), stop-rows (put-keeps (rw h at (H .number)) (H .done h)) P .only))))))
+    (inr (λ n. n (p .0 .sized), inr (λ n. n (p .0 .tolerances), inr (λ n. n (p .0 .lent, p .1 .room), inr (λ n. omega arith, inr (λ n. n (p .0 .stored, p .1 .cells), left-later (stop-rows (put-keeps (rw h at (H .number)) (H .done h)) P .only)))))))
 
 pub record UploadRows (a : Trace) (b : Buffers) (us : Samples) (r : Uploaded) : Type 0 where
   -- lists of different length are refused with 3, before every other check

@@ -427,7 +427,7 @@ impl Trace {
         }
     }
 
-    // put once refusals 1 to 5 are ruled out: the sample alone is checked.
+    // put where checks 1 to 5 have passed: the sample alone is checked.
     fn admit(
         self,
         xs: &mut [i16],
@@ -454,7 +454,7 @@ impl Trace {
         self.change(xs, ys, marks, table, v, n, x, y, mark)
     }
 
-    // Put the samples of lists of one length one by one at the end, up to the first refused. A put leaves a trace that refusals 1 to 5 pass, so they are ruled out once.
+    // Put the samples of lists of one length one by one at the end, up to the first refused. A sample put leaves a trace that passes checks 1 to 5, so these are made once, by the caller.
     fn add_each(
         self,
         xs: &mut [i16],
