@@ -8,7 +8,7 @@ use Rattle.refusal.specs.declared.Refusal.{Refusal}
 use Rattle.refusal.specs.declared.Outcome.{Outcome}
 use Rattle.refusal.specs.declared.Outcome.the-variants.{Done, Refused}
 use Rattle.refusal.specs.Number.{code}
-use Rattle.refusal.proofs.Rows.{numbered}
+use Rattle.refusal.proofs.Rows.{numbered, number-one}
 use Rattle.geometry.specs.Mark.{Mark}
 use Rattle.geometry.specs.Samples.{Sample, Samples, store}
 use Rattle.family.specs.Fine.{Fine}
@@ -29,6 +29,10 @@ use Rattle.costs.proofs.Meaning.{rewritten-cells, cells-rewritten}
 -- no call is both carried out and refused
 pub done-refused : {A : Type 0} {o : Outcome} {why : Refusal} → o ≡ Done → o ≡ Refused why → A
 done-refused {why = why} h g = absurd (numbered why (ap code (sym g ∙ h)))
+
+-- and a call refused twice is refused alike
+pub refused-one : {o p : Outcome} {v w : Refusal} → o ≡ p → o ≡ Refused v → p ≡ Refused w → v ≡ w
+refused-one {v = v} {w = w} e h g = number-one v w (ap code (sym h ∙ e ∙ g))
 
 -- buffers are their parts
 pub buffers-is : {b : Buffers} {xs : Samples} {t : List ℕ} → b .samples ≡ xs → b .table ≡ t → b ≡ buffers xs t

@@ -32,7 +32,7 @@ use Rattle.trace.proofs.Numbers.{start-number-one, put-number-one, ask-
 use Rattle.trace.proofs.Passed.{read-passed}
 use Rattle.costs.proofs.Exit.{rewritten-unique}
 use Rattle.readout.proofs.Meaning.{ranks-one}
-use Rattle.trace.proofs.Calls.{done-refused, Able, put-able, put-rewritten, buffers-is}
+use Rattle.trace.proofs.Calls.{done-refused, refused-one, Able, put-able, put-rewritten, buffers-is}
 
 -- two outcomes with a number that one row leaves no choice of are equal: both Done, or both one refusal
 pub by-number : {A : Type 0} (Number : ℕ → Type 0) → ((j k : ℕ) → Number j → Number k → j ≡ k) → (o p : Outcome) → Number (code o) → Number (code p)
@@ -83,10 +83,9 @@ put-one a b v x r q e f A B =
 -- ---- upload
 pub puts-one : {a : Trace} {b : Buffers} {zs : List Sample} {r q : Uploaded} {e f : Buffers} → Puts a b zs r e → Puts a b zs q f → (r ≡ q) × (e ≡ f)
 puts-one all-taken all-taken = (refl, refl)
-puts-one (one-refused {a = a} {b = b} {e = e} {x = x} {r = r} {why = v} G h) (one-refused {e = f} {r = q} {why = w} H g) =
+puts-one (one-refused {a = a} {b = b} {e = e} {x = x} {r = r} G h) (one-refused {e = f} {r = q} H g) =
     let o = put-one a b (a .held) x r q e f G H in
-    let z : v ≡ w = number-one v w (ap code (sym h ∙ ap (λ (r : Changed). r .outcome) (o .0) ∙ g)) in
-    (rw (z, o .0), o .1)
+    (rw (refused-one (ap (λ (r : Changed). r .outcome) (o .0)) h g, o .0), o .1)
 puts-one (one-refused {a = a} {b = b} {e = e} {x = x} {r = r} G h) (one-taken {c = f} {r = q} H g Q) =
     done-refused g (ap (λ (r : Changed). r .outcome) (sym (put-one a b (a .held) x r q e f G H .0)) ∙ h)
 puts-one (one-taken {a = a} {b = b} {c = e} {x = x} {r = r} G h P) (one-refused {e = f} {r = q} H g) =

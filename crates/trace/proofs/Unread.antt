@@ -10,9 +10,8 @@ use lib.ListN.{length, length-set, getD, set}
 use lib.Seq.{getD-set-same, getD-set-other}
 use Rattle.refusal.specs.declared.Refusal.{Refusal}
 use Rattle.refusal.specs.declared.Outcome.the-variants.{Done, Refused}
-use Rattle.refusal.specs.Number.{code}
 use Rattle.refusal.proofs.Plain.{decided}
-use Rattle.refusal.proofs.Rows.{first-same, first-unless, number-one}
+use Rattle.refusal.proofs.Rows.{first-same, first-unless}
 use Rattle.geometry.specs.Samples.{Sample, Samples, sampleAt, store}
 use Rattle.geometry.proofs.Spoiler.{spoiler-carried}
 use Rattle.geometry.proofs.Permits.{Same, same-back, passable-same, permitted-same, permits-same}
@@ -40,7 +39,7 @@ use Rattle.trace.proofs.Decided.{lists-decided}
 use Rattle.trace.proofs.Numbers.{put-number-one, ask-number-one, read-number-one}
 use Rattle.trace.proofs.Held.{held-others}
 use Rattle.trace.proofs.Passed.{put-passed, ask-passed, read-passed}
-use Rattle.trace.proofs.Calls.{done-refused, Able, put-able, put-rewritten}
+use Rattle.trace.proofs.Calls.{done-refused, refused-one, Able, put-able, put-rewritten}
 use Rattle.trace.proofs.Unique.{by-number, says-one, levels-same}
 
 -- ---- a setup that is alike is the same but for its tolerances
@@ -210,10 +209,9 @@ next-unread {a} {c} {b} {d} {x} {r} {q} {e} {f} A B G H = put-unread a c b d (a 
 
 pub puts-unread : {a c : Trace} {b d : Buffers} {zs : List Sample} {r q : Uploaded} {e f : Buffers} → AlikeTraces a c → AlikeBuffers a b d → Puts a b zs r e → Puts c d zs q f → AlikeUploads r q e f
 puts-unread A B all-taken all-taken = record { stop = refl; added = refl; cells = refl; trace = A; lent = B }
-puts-unread A B (one-refused {why = v} G h) (one-refused {why = w} H g) =
+puts-unread A B (one-refused G h) (one-refused H g) =
     let o = next-unread A B G H in
-    let z : v ≡ w = number-one v w (ap code (sym h ∙ o .outcome ∙ g)) in
-    record { stop = ap Stop.Refused z; added = refl; cells = refl; trace = o .trace; lent = o .lent }
+    record { stop = ap Stop.Refused (refused-one (o .outcome) h g); added = refl; cells = refl; trace = o .trace; lent = o .lent }
 puts-unread A B (one-refused G h) (one-taken H g Q) = done-refused g (sym (next-unread A B G H .outcome) ∙ h)
 puts-unread A B (one-taken G h P) (one-refused H g) = done-refused h (next-unread A B G H .outcome ∙ g)
 puts-unread A B (one-taken G h P) (one-taken H g Q) =

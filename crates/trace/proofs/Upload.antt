@@ -1,5 +1,5 @@
 -- An upload as the code makes it: its lists, what refuses it before its first sample, and a loop that is some samples on its way. Assumes nothing.
-use mathlib.Core.Path.{_≡_, refl, sym, ap, _∙_}
+use mathlib.Core.Path.{_≡_, refl, ap, _∙_}
 use mathlib.Core.Bool.{Bool, true, false, cond}
 use mathlib.Core.List.{List, [], _∷_}
 use Prim.Native.Nat.{ℕ, zero, suc, _+_, _*_, _≤_, _<_}
@@ -14,9 +14,8 @@ use Rattle.refusal.specs.declared.Refusal.{Refusal}
 use Rattle.refusal.specs.declared.Refusal.the-variants.{Buffer}
 use Rattle.refusal.specs.declared.Outcome.{Outcome}
 use Rattle.refusal.specs.declared.Outcome.the-variants.{Done, Refused}
-use Rattle.refusal.specs.Number.{code}
 use Rattle.refusal.specs.Check.{unless, andThen, Decides}
-use Rattle.refusal.proofs.Rows.{number-one, by-outcome}
+use Rattle.refusal.proofs.Rows.{by-outcome}
 use Rattle.geometry.specs.Samples.{Sample, Samples, sample, samples, sampleAt}
 use Rattle.trace.specs.declared.Trace.{Trace}
 use Rattle.trace.specs.declared.Changed.{Changed}
@@ -29,7 +28,7 @@ use Rattle.trace.specs.Rows.{traceOutcome, uploadOutcome, Passed, Passed
 use Rattle.trace.proofs.Decided.{lists-decided}
 use Rattle.trace.proofs.Numbers.{put-stopped}
 use Rattle.trace.proofs.Passed.{trace-passed, put-passed}
-use Rattle.trace.proofs.Calls.{done-refused, refused-gives, put-keeps}
+use Rattle.trace.proofs.Calls.{done-refused, refused-one, refused-gives, put-keeps}
 use Rattle.trace.proofs.Formulas.{put-adds, added-cells}
 
 -- ---- the lists
@@ -69,7 +68,7 @@ module _ (a : Trace) (b : Buffers) (us : Samples) where
       by : (one none : Bool) → Decides (OneLength us) one → (none ≡ true → length (us .across) ≡ 0) → (none ≡ false → length (us .across) ≡ 0 → ⊥) → row one none ≡ Refused why
           → UploadGives a b us (uploaded (Stop.Refused why) a 0 0) b us
       by false none d e f h = record {
-        unequal = λ n. (ap (λ w. uploaded (Stop.Refused w) a 0 0) (number-one why Buffer (ap code (sym h))), refl);
+        unequal = λ n. (ap (λ w. uploaded (Stop.Refused w) a 0 0) (refused-one refl h refl), refl);
         puts = λ o. absurd (d .wrong refl o);
         lists = refl;
       }
