@@ -2,10 +2,12 @@
 -- and M r s = |r·u − s·v|². All that is asked of them are the two identities `scaled` and `lagrange`. Assumes nothing.
 use mathlib.Core.Path.{_≡_, ap}
 use Prim.Native.Nat.{ℕ, _+_, _*_, _-_, _≤_, _<_}
-use native.Mathlib.Nat.{mul-le-mul, mul-le-mul-left, le-of-mul-le-mul-left}
+use native.Mathlib.Nat.{mul-le-mul, mul-le-mul-left}
 use native.Mathlib.Omega.{arith}
-use Rattle.geometry.specs.Shifted.{Close}
 use Rattle.algebra.proofs.Gap.{two-mul-le}
+use Rattle.geometry.specs.declared.Nearest.the-variants.{Beginning, End, Between}
+use Rattle.geometry.specs.Nearest.{NoneNearer, Closest, Lies, Exact}
+use Rattle.geometry.proofs.Exact.{attained-closest}
 
 pub record Frame (M : ℕ → ℕ → ℕ) (U L P N C : ℕ) : Type 0 where
   pub scaled : (r s : ℕ) → M r s + 2 * (r * s * P) ≡ r * r * U + 2 * (r * s * N) + s * s * L
@@ -32,30 +34,49 @@ across : (U L C d m r s : ℕ) → L * U ≡ C + d * d → m + 2 * (r * s * d) �
 across U L C d m r s h g =
     omega (arith, ap (λ (x : ℕ). r * r * x) h, ap (λ (x : ℕ). L * x) g, two-mul-le (r * d) (s * L))
 
-module _ (M : ℕ → ℕ → ℕ) (U L P N C reach : ℕ) (f : Frame M U L P N C) where
-  -- what r² times is within reach is within reach
-  fraction : (c : Close M reach) (x y : ℕ) → c .r * c .r * x ≤ c .r * c .r * y → x ≤ y
-  fraction c x y h = le-of-mul-le-mul-left h (mul-le-mul (c .whole) (c .whole))
+-- the ends are farther than the foot: U = |q − a|², W = |q − b|², where L = d + t
+begin-farther : (U L C d : ℕ) → L * U ≡ C + d * d → 1 ≤ L → 1 ≤ d → L * C < L * L * U
+begin-farther U L C d h l g = omega (arith, ap (λ (x : ℕ). L * x) h, mul-le-mul l (mul-le-mul g g))
+
+end-farther : (U W C d t : ℕ) → (d + t) * U ≡ C + d * d → W + 2 * d ≡ U + (d + t) → 1 ≤ t → (d + t) * C < (d + t) * (d + t) * W
+end-farther U W C d t h e g =
+    let w : (d + t) * W ≡ C + t * t = omega (arith, ap (λ (x : ℕ). (d + t) * x) e) in
+    let l : 1 ≤ d + t = omega arith in
+    omega (arith, ap (λ (x : ℕ). (d + t) * x) w, mul-le-mul l (mul-le-mul g g))
+
+module _ {M : ℕ → ℕ → ℕ} {U L P N C : ℕ} (f : Frame M U L P N C) where
+  at-begin : M 1 0 ≡ U
+  at-begin = omega (arith, f .scaled 1 0)
 
   -- behind a: u·v ≤ 0
-  pub behind : P ≤ N → U ≤ reach → Close M reach
-  behind h g = record { s = 0; r = 1; along = omega arith; whole = omega arith; within = omega (arith, f .scaled 1 0) }
+  module _ (h : P ≤ N) where
+    behind : NoneNearer M U 1
+    behind r s a b = omega (arith, f .scaled r s, mul-le-mul-left (r * s) h)
 
-  pub behind-only : P ≤ N → Close M reach → U ≤ reach
-  behind-only h c = fraction c _ _ (omega (arith, f .scaled (c .r) (c .s), mul-le-mul-left (c .r * c .s) h))
+    pub lies-beginning : Lies M Beginning
+    lies-beginning = attained-closest M U 1 1 0 (omega arith) behind (omega (arith, at-begin))
+
+    pub exact-beginning : Exact M (record { top = U; bottom = 1 })
+    exact-beginning = record { whole = omega arith; least = behind; s = 0; r = 1; along = omega arith; some = omega arith; attained = omega (arith, at-begin) }
 
   -- past b: |v|² ≤ u·v; |q − b|² is M 1 1
-  pub past : M 1 1 ≤ reach → Close M reach
-  past g = record { s = 1; r = 1; along = omega arith; whole = omega arith; within = omega arith }
+  module _ (g : N < P) (h : N + L ≤ P) where
+    past : NoneNearer M (M 1 1) 1
+    past r s a b =
+        let t : ℕ = r - s in
+        let k : r ≡ s + t = omega arith in
+        omega (arith, rw (← k) at (past-least U L P N (M 1 1) (M r s) s t (omega (arith, f .scaled 1 1)) (rw (← k) (f .scaled r s)) h))
 
-  pub past-only : N + L ≤ P → Close M reach → M 1 1 ≤ reach
-  past-only h c =
-      let t : ℕ = c .r - c .s in
-      let k : c .r ≡ c .s + t = omega arith in
-      fraction c _ _
-      (omega (arith, rw (← k) at (past-least U L P N (M 1 1) (M (c .r) (c .s)) (c .s) t (omega (arith, f .scaled 1 1)) (rw (← k) (f .scaled (c .r) (c .s))) h)))
+    pub lies-end : Lies M End
+    lies-end = (
+      λ c. let n : M 1 0 * (1 * 1) ≤ M 1 1 * (1 * 1) = c 1 1 (omega arith) (omega arith) in omega (arith, at-begin, f .scaled 1 1),
+      attained-closest M (M 1 1) 1 1 1 (omega arith) past (omega arith),
+    )
 
-  -- abreast: 0 < u·v < |v|²
+    pub exact-end : Exact M (record { top = M 1 1; bottom = 1 })
+    exact-end = record { whole = omega arith; least = past; s = 1; r = 1; along = omega arith; some = omega arith; attained = omega arith }
+
+  -- abreast: 0 < u·v < |v|²; the foot is the point d / L
   module _ (h : N < P) (k : P < N + L) where
     d : ℕ
     d = P - N
@@ -70,17 +91,25 @@ module _ (M : ℕ → ℕ → ℕ) (U L P N C reach : ℕ) (f : Frame M U L P N 
     sca : (r s : ℕ) → M r s + 2 * (r * s * d) ≡ r * r * U + s * s * L
     sca r s = dot-scaled U L N d (M r s) r s (rw whole-P (f .scaled r s))
 
-    pub abreast : C ≤ reach * L → Close M reach
-    abreast g =
-        record {
-          s = d;
-          r = L;
-          along = omega (arith, whole-P);
-          whole = omega arith;
-          within = omega (arith, foot U L C d (M L d) lag (sca L d), mul-le-mul-left L g);
-        }
+    at-foot : M L d ≡ L * C
+    at-foot = foot U L C d (M L d) lag (sca L d)
 
-    pub abreast-only : Close M reach → C ≤ reach * L
-    abreast-only c =
-        fraction c _ _
-        (omega (arith, across U L C d (M (c .r) (c .s)) (c .r) (c .s) lag (sca (c .r) (c .s)), mul-le-mul-left L (c .within)))
+    attained : M L d * L ≡ C * (L * L)
+    attained = omega (arith, ap (λ (x : ℕ). x * L) at-foot)
+
+    abreast : NoneNearer M C L
+    abreast r s a b = omega (arith, across U L C d (M r s) r s lag (sca r s))
+
+    pub lies-between : Lies M Between
+    lies-between = (
+      λ c. let n : M 1 0 * (L * L) ≤ M L d * (1 * 1) = c L d (omega (arith, whole-P)) (omega arith) in
+          omega (arith, ap (λ (x : ℕ). L * L * x) at-begin, at-foot, begin-farther U L C d lag (omega arith) (omega (arith, whole-P))),
+      λ c. let n : M 1 1 * (L * L) ≤ M L d * (1 * 1) = c L d (omega (arith, whole-P)) (omega arith) in
+          let t : ℕ = L - d in
+          let e : L ≡ d + t = omega (arith, whole-P) in
+          omega (arith, at-foot, rw (← e) at (end-farther U (M 1 1) C d t (rw (← e) lag) (omega (arith, sca 1 1)) (omega (arith, whole-P)))),
+      record { s = d; r = L; after = omega (arith, whole-P); before = omega (arith, whole-P); closest = attained-closest M C L L d (omega arith) abreast attained },
+    )
+
+    pub exact-between : Exact M (record { top = C; bottom = L })
+    exact-between = record { whole = omega arith; least = abreast; s = d; r = L; along = omega (arith, whole-P); some = omega arith; attained = attained }

@@ -1,6 +1,7 @@
 pub mod Coordinate
 pub mod Core
 pub mod Decide
+pub mod Exact
 pub mod Link
 pub mod Marks
 pub mod Move

@@ -1,17 +1,11 @@
--- A coordinate, moved by 16,384: it is not negative, and fits. Assumes nothing.
+-- A coordinate fits the numbers that hold it. Assumes nothing.
 use Prim.Native.Nat.{_<_}
 use native.Mathlib.Omega.{arith}
 use lib.IntN.{ℤ, pos, negsuc}
 use lib.Signed.{mag}
 use mir.Syntax.{w16, w64}
 use mir.Val.{SFits}
-use Rattle.algebra.specs.Parts.{Is}
 use Rattle.geometry.specs.Coordinate.{Coord}
-use Rattle.geometry.specs.Test.{moved}
-
-pub stands : (z : ℤ) → Coord z → Is z (moved z) 16384
-stands (pos n) h = omega arith
-stands (negsuc n) h = omega arith
 
 small : (z : ℤ) → Coord z → mag z < 32768
 small (pos n) h = omega arith

@@ -13,10 +13,9 @@ use Rattle.refusal.proofs.Plain.{no-decides, carry, decides-true, decides-uniqu
 use Rattle.geometry.specs.Mark.{Marked}
 use Rattle.geometry.specs.Near.{Near, Along, Passable, Permitted}
 use Rattle.geometry.specs.Samples.{Samples}
-use Rattle.geometry.specs.Shifted.{Close, NearAt}
 use Rattle.geometry.specs.Spoiler.{Clear}
-use Rattle.geometry.specs.Test.{moved, permits}
-use Rattle.geometry.proofs.Spoiler.{PassableAt, permits-told}
+use Rattle.geometry.specs.Test.{permits}
+use Rattle.geometry.proofs.Spoiler.{permits-told}
 
 -- a wider tolerance
 widen : {e f : ℕ} (m n : ℕ) → e ≤ f → m ≤ e * e * n → m ≤ f * f * n
@@ -32,20 +31,14 @@ pub permitted-wider : {xs : Samples} {i j e f : ℕ} → e ≤ f → Permitted x
 permitted-wider h p = record { each = λ k a b. let q = p .each k a b in (q .0, near-wider h (q .1)) }
 
 pub permits-wider : (xs : Samples) (i j : ℕ) {e f : ℕ} → e ≤ f → permits xs i j e ≡ true → permits xs i j f ≡ true
-permits-wider xs i j {e} {f} h t = decides-true _ (permits-told xs i j f) (λ k a b. let p = permits-told xs i j e .right t k a b in (p .0, wider _ (p .1)))
-  where
-    wider : (M : ℕ → ℕ → ℕ) → Close M (e * e) → Close M (f * f)
-    wider M n = record { s = n .s; r = n .r; along = n .along; whole = n .whole; within = widen _ _ h (n .within) }
+permits-wider xs i j {e} {f} h t = decides-true _ (permits-told xs i j f) (permitted-wider h (permits-told xs i j e .right t))
 
 -- neighbours
-none : {A : Type 0} {i k : ℕ} → i < k → k < suc i → A
-none a b = let f : ⊥ = omega arith in absurd f
-
 pub permitted-adjacent : {xs : Samples} {i e : ℕ} → Permitted xs i (suc i) e
-permitted-adjacent = record { each = λ k a b. none a b }
+permitted-adjacent = record { each = λ k a b. absurd (omega arith) }
 
 pub permits-adjacent : (xs : Samples) (i e : ℕ) → permits xs i (suc i) e ≡ true
-permits-adjacent xs i e = decides-true _ (permits-told xs i (suc i) e) (λ k a b. none a b)
+permits-adjacent xs i e = decides-true _ (permits-told xs i (suc i) e) permitted-adjacent
 
 -- the samples from i to j agree, and of their marks which of those strictly between are marked
 pub record Same (xs vs : Samples) (i j : ℕ) : Type 0 where
@@ -57,11 +50,8 @@ pub same-back : {xs vs : Samples} {i j : ℕ} → Same xs vs i j → Same vs xs 
 same-back h = record { across = λ k a b. sym (h .across k a b); upward = λ k a b. sym (h .upward k a b); marks = λ k a b. (h .marks k a b .1, h .marks k a b .0) }
 
 module _ (xs vs : Samples) (i j : ℕ) (h : Same xs vs i j) where
-  -- what is said of the two ends and of an unmarked sample between is said alike
-  alike : (P : ℤ → ℤ → ℤ → ℤ → ℤ → ℤ → Type 0) (k : ℕ) → i < k → k < j
-      → (Marked (xs .marks) k → ⊥) × P (getD (xs .across) i (pos 0)) (getD (xs .upward) i (pos 0)) (getD (xs .across) j (pos 0)) (getD (xs .upward) j (pos 0)) (getD (xs .across) k (pos 0)) (getD (xs .upward) k (pos 0))
-      → (Marked (vs .marks) k → ⊥) × P (getD (vs .across) i (pos 0)) (getD (vs .upward) i (pos 0)) (getD (vs .across) j (pos 0)) (getD (vs .upward) j (pos 0)) (getD (vs .across) k (pos 0)) (getD (vs .upward) k (pos 0))
-  alike P k a b p =
+  pub passable-same : {e : ℕ} (k : ℕ) → i < k → k < j → Passable xs i j e k → Passable vs i j e k
+  passable-same k a b p =
       let l = le-of-lt a in
       let r = le-of-lt b in
       let o : i ≤ j = le-trans l r in (
@@ -69,22 +59,16 @@ module _ (xs vs : Samples) (i j : ℕ) (h : Same xs vs i j) where
         rw (← h .across i (le-refl i) o, ← h .upward i (le-refl i) o, ← h .across j o (le-refl j), ← h .upward j o (le-refl j), ← h .across k l r, ← h .upward k l r) (p .1),
       )
 
-  pub passable-same : {e : ℕ} (k : ℕ) → i < k → k < j → Passable xs i j e k → Passable vs i j e k
-  passable-same {e} = alike (λ ax ay bx by qx qy. Near ax ay bx by qx qy e)
-
   pub permitted-same : {e : ℕ} → Permitted xs i j e → Permitted vs i j e
   permitted-same p = record { each = λ k a b. passable-same k a b (p .each k a b) }
 
-  clear-same : (e : ℕ) → Clear (PassableAt xs i j e) i j → Clear (PassableAt vs i j e) i j
-  clear-same e p k a b = alike (λ ax ay bx by qx qy. NearAt (moved ax) (moved ay) (moved bx) (moved by) (moved qx) (moved qy) (e * e)) k a b (p k a b)
-
 pub permits-same : (xs vs : Samples) (i j e : ℕ) → Same xs vs i j → permits xs i j e ≡ permits vs i j e
 permits-same xs vs i j e h =
-    decides-unique _ _ (permits-told xs i j e) (carry (clear-same vs xs i j (same-back h) e) (clear-same xs vs i j h e) (permits-told vs i j e))
+    decides-unique _ _ (permits-told xs i j e) (carry (permitted-same vs xs i j (same-back h)) (permitted-same xs vs i j h) (permits-told vs i j e))
 
 -- at no tolerance is a stretch permitted that passes over a marked sample
 pub marked-stops : {xs : Samples} {i j e q : ℕ} → Marked (xs .marks) q → i < q → q < j → Permitted xs i j e → ⊥
 marked-stops h a b p = p .each _ a b .0 h
 
 pub permits-stops : (xs : Samples) (i j e q : ℕ) → Marked (xs .marks) q → i < q → q < j → permits xs i j e ≡ false
-permits-stops xs i j e q h a b = decides-unique _ _ (permits-told xs i j e) (no-decides (λ c. c q a b .0 h))
+permits-stops xs i j e q h a b = decides-unique _ _ (permits-told xs i j e) (no-decides (marked-stops h a b))

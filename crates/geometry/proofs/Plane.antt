@@ -1,62 +1,91 @@
--- The points a = (a, x), b = (b, y) and q = (q, z) of the plane, with coordinates in ℕ, give a `Frame`: u = q − a, v = b − a. Assumes nothing.
+-- The ways v = (dx, dy) to a segment's end and u = (px, py) to a sample give a `Frame`. Assumes nothing.
 use mathlib.Core.Path.{_≡_, ap}
 use Prim.Native.Nat.{ℕ, _+_, _*_}
 use native.Mathlib.Omega.{arith}
-use Rattle.algebra.specs.Gap.{gap, Square}
-use Rattle.algebra.proofs.Gap.{gap-sq, square-mul, square-swap}
-use Rattle.geometry.specs.Shifted.{apart, part}
-use Rattle.geometry.specs.Test.{fore, aft, left, right, cross-sq}
+use lib.IntN.{ℤ, pos, _-ℤ_, _*ℤ_}
+use Rattle.algebra.specs.Gap.{Square}
+use Rattle.algebra.specs.Parts.{up, dn, sq, Is}
+use Rattle.algebra.proofs.Gap.{square-mul, square-swap}
+use Rattle.algebra.proofs.Parts.{is-mul, is-minus, is-plus, is-times, is-sq}
+use Rattle.geometry.specs.Nearest.{dot, cross}
+use Rattle.geometry.specs.Way.{offsetBy}
 use Rattle.geometry.proofs.Core.{Frame}
 
--- one axis: (r·(q − a) − s·(b − a))²
-axis : (a b q r s m u v : ℕ) → Square m (r * q + s * a) (r * a + s * b) → Square u q a → Square v b a
-    → m + 2 * (r * s * (q * b + a * a)) ≡ r * r * u + 2 * (r * s * (q * a + a * b)) + s * s * v
-axis a b q r s m u v h hu hv = omega (arith, ap (λ (t : ℕ). r * r * t) hu, ap (λ (t : ℕ). s * s * t) hv)
+-- the square m of a sum of two differences, whose squares are k and l
+sum-square : (m k l p n x y : ℕ) → Square m (p + x) (n + y) → Square k p n → Square l x y → m + 2 * (p * y + n * x) ≡ k + l + 2 * (p * x + n * y)
+sum-square m k l p n x y g h j = omega arith
 
-both-axes : (r s m n f g h j u v w t : ℕ) → m + 2 * (r * s * f) ≡ r * r * u + 2 * (r * s * h) + s * s * w
-    → n + 2 * (r * s * g) ≡ r * r * v + 2 * (r * s * j) + s * s * t
-    → m + n + 2 * (r * s * (f + g)) ≡ r * r * (u + v) + 2 * (r * s * (h + j)) + s * s * (w + t)
-both-axes r s m n f g h j u v w t e k = omega arith
+scale : (r u x y : ℕ) → Square u x y → Square (r * r * u) (r * x) (r * y)
+scale r u x y h = omega (arith, ap (λ (t : ℕ). r * r * t) h)
 
--- the square of a sum of two differences
-add-squares : (k l p n x y : ℕ) → Square k p n → Square l x y
-    → (p + x) * (p + x) + (n + y) * (n + y) + 2 * (p * y + n * x) ≡ k + l + 2 * (p * x + n * y) + 2 * ((p + x) * (n + y))
-add-squares k l p n x y h g = omega arith
+-- the dot and the cross product are each a sum of two products; what their squares add up to
+both : (m n k₁ k₂ k₃ k₄ c₁ d₁ c₂ d₂ : ℕ) → m + 2 * c₁ ≡ k₁ + k₂ + 2 * d₁ → n + 2 * c₂ ≡ k₃ + k₄ + 2 * d₂ → d₁ + d₂ ≡ c₁ + c₂ → m + n ≡ k₁ + k₂ + (k₃ + k₄)
+both m n k₁ k₂ k₃ k₄ c₁ d₁ c₂ d₂ g h e = omega arith
 
-expand : (u v w t : ℕ) → (v + t) * (u + w) ≡ u * v + w * t + (u * t + w * v)
-expand u v w t = omega arith
+exchange : (x y z w x′ y′ z′ w′ : ℕ)
+    → (x * z + y * w) * (x′ * z′ + y′ * w′) + (x * w + y * z) * (x′ * w′ + y′ * z′) + ((x * z′ + y * w′) * (x′ * w + y′ * z) + (x * w′ + y * z′) * (x′ * z + y′ * w))
+    ≡ (x * z + y * w) * (x′ * w′ + y′ * z′) + (x * w + y * z) * (x′ * z′ + y′ * w′) + ((x * z′ + y * w′) * (x′ * z + y′ * w) + (x * w′ + y * z′) * (x′ * w + y′ * z))
+exchange x y z w x′ y′ z′ w′ = omega arith
 
--- the four products of a component of u and one of v are differences p − n, of squares k; two of the products make what the other two do
-total : (k₁ k₂ k₃ k₄ f g l r c₁ d₁ c₂ d₂ c u : ℕ)
-    → f * f + g * g + 2 * c₁ ≡ k₁ + k₂ + 2 * d₁ + 2 * (f * g) → l * l + r * r + 2 * c₂ ≡ k₃ + k₄ + 2 * d₂ + 2 * (l * r)
-    → d₁ + d₂ ≡ c₁ + c₂ → Square c l r → u ≡ k₁ + k₂ + (k₃ + k₄)
-    → u + 2 * (f * g) ≡ c + f * f + g * g
-total k₁ k₂ k₃ k₄ f g l r c₁ d₁ c₂ d₂ c u h j e s w = omega arith
+-- an integer is the difference of its parts
+own : (z : ℤ) → Is z (up z) (dn z)
+own z = record { eq = omega arith }
 
-exchange : (a b q x y z : ℕ)
-    → (q * b + a * a) * (z * y + x * x) + (q * a + a * b) * (z * x + x * y) + ((q * y + a * x) * (z * a + x * b) + (q * x + a * y) * (z * b + x * a))
-    ≡ (q * b + a * a) * (z * x + x * y) + (q * a + a * b) * (z * y + x * x) + ((q * y + a * x) * (z * b + x * a) + (q * x + a * y) * (z * a + x * b))
-exchange a b q x y z = omega arith
+part : (z : ℤ) → Square (sq z) (up z) (dn z)
+part z = is-sq z (up z) (dn z) (own z)
 
-module _ (a x b y q z : ℕ) where
-  lagrange : apart b y a x * apart q z a x + 2 * (fore a x b y q z * aft a x b y q z)
-      ≡ cross-sq a x b y q z + fore a x b y q z * fore a x b y q z + aft a x b y q z * aft a x b y q z
-  unfolding apart cross-sq
-  lagrange =
-      total _ _ _ _ (fore a x b y q z) (aft a x b y q z) (left a x b y q z) (right a x b y q z) _ _ _ _ _ _
-      (add-squares _ _ _ _ _ _ (square-mul _ _ q a b a (gap-sq q a) (gap-sq b a)) (square-mul _ _ z x y x (gap-sq z x) (gap-sq y x)))
-      (add-squares _ _ _ _ _ _ (square-mul _ _ q a y x (gap-sq q a) (gap-sq y x)) (square-swap _ _ _ (square-mul _ _ z x b a (gap-sq z x) (gap-sq b a))))
-      (exchange a b q x y z)
-      (gap-sq (left a x b y q z) (right a x b y q z))
-      (expand (gap q a * gap q a) (gap b a * gap b a) (gap z x * gap z x) (gap y x * gap y x))
+-- the two sides of a product
+abbrev more : ℤ → ℤ → ℕ
+more a b = up a * up b + dn a * dn b
 
-  scaled : (r s : ℕ) → part a b q r s + part x y z r s + 2 * (r * s * fore a x b y q z)
-      ≡ r * r * apart q z a x + 2 * (r * s * aft a x b y q z) + s * s * apart b y a x
-  unfolding apart
-  scaled r s =
-      both-axes r s _ _ _ _ _ _ _ _ _ _
-      (axis a b q r s _ _ _ (gap-sq (r * q + s * a) (r * a + s * b)) (gap-sq q a) (gap-sq b a))
-      (axis x y z r s _ _ _ (gap-sq (r * z + s * x) (r * x + s * y)) (gap-sq z x) (gap-sq y x))
+abbrev less : ℤ → ℤ → ℕ
+less a b = up a * dn b + dn a * up b
 
-  pub frame : Frame (λ r s. part a b q r s + part x y z r s) (apart q z a x) (apart b y a x) (fore a x b y q z) (aft a x b y q z) (cross-sq a x b y q z)
+times : (a b : ℤ) → Is (a *ℤ b) (more a b) (less a b)
+times a b = is-times a b _ _ _ _ (own a) (own b)
+
+part-mul : (a b : ℤ) → Square (sq a * sq b) (more a b) (less a b)
+part-mul a b = square-mul _ _ _ _ _ _ (part a) (part b)
+
+-- of u·v
+abbrev pub fore : ℤ → ℤ → ℤ → ℤ → ℕ
+fore dx dy px py = more px dx + more py dy
+
+abbrev pub aft : ℤ → ℤ → ℤ → ℤ → ℕ
+aft dx dy px py = less px dx + less py dy
+
+module _ (dx dy px py : ℤ) where
+  pub dot-is : Is (dot dx dy px py) (fore dx dy px py) (aft dx dy px py)
+  dot-is = is-plus _ _ _ _ _ _ (times px dx) (times py dy)
+
+  cross-is : Is (cross dx dy px py) (more px dy + less py dx) (less px dy + more py dx)
+  cross-is = is-minus _ _ _ _ _ _ (times px dy) (times py dx)
+
+  products : sq (dot dx dy px py) + sq (cross dx dy px py) ≡ sq px * sq dx + sq py * sq dy + (sq px * sq dy + sq py * sq dx)
+  products =
+      both _ _ _ _ _ _ _ _ _ _
+      (sum-square _ _ _ _ _ _ _ (is-sq _ _ _ dot-is) (part-mul px dx) (part-mul py dy))
+      (sum-square _ _ _ _ _ _ _ (is-sq _ _ _ cross-is) (part-mul px dy) (square-swap _ _ _ (part-mul py dx)))
+      (exchange (up px) (dn px) (up dx) (dn dx) (up py) (dn py) (up dy) (dn dy))
+
+  lagrange : (sq dx + sq dy) * (sq px + sq py) + 2 * (fore dx dy px py * aft dx dy px py)
+      ≡ sq (cross dx dy px py) + fore dx dy px py * fore dx dy px py + aft dx dy px py * aft dx dy px py
+  lagrange = joined _ _ _ _ _ _ _ _ products (is-sq _ _ _ dot-is)
+    where
+      joined : (u v w t m c f g : ℕ) → m + c ≡ u * v + w * t + (u * t + w * v) → Square m f g → (v + t) * (u + w) + 2 * (f * g) ≡ c + f * f + g * g
+      joined u v w t m c f g h j = omega arith
+
+  axis : (p d : ℤ) (r s : ℕ) → sq (pos r *ℤ p -ℤ pos s *ℤ d) + 2 * (r * s * more p d) ≡ r * r * sq p + 2 * (r * s * less p d) + s * s * sq d
+  axis p d r s =
+      omega (arith, sum-square _ _ _ _ _ _ _ (is-sq _ _ _ (is-minus _ _ _ _ _ _ (is-mul r p _ _ (own p)) (is-mul s d _ _ (own d)))) (scale r _ _ _ (part p)) (square-swap _ _ _ (scale s _ _ _ (part d))))
+
+  scaled : (r s : ℕ) → offsetBy dx dy px py r s + 2 * (r * s * fore dx dy px py)
+      ≡ r * r * (sq px + sq py) + 2 * (r * s * aft dx dy px py) + s * s * (sq dx + sq dy)
+  scaled r s = joined r s _ _ _ _ _ _ _ _ _ _ (axis px dx r s) (axis py dy r s)
+    where
+      joined : (r s m n f g h j u v w t : ℕ) → m + 2 * (r * s * f) ≡ r * r * u + 2 * (r * s * h) + s * s * w → n + 2 * (r * s * g) ≡ r * r * v + 2 * (r * s * j) + s * s * t
+          → m + n + 2 * (r * s * (f + g)) ≡ r * r * (u + v) + 2 * (r * s * (h + j)) + s * s * (w + t)
+      joined r s m n f g h j u v w t e k = omega arith
+
+  pub frame : Frame (offsetBy dx dy px py) (sq px + sq py) (sq dx + sq dy) (fore dx dy px py) (aft dx dy px py) (sq (cross dx dy px py))
   frame = record { scaled = scaled; lagrange = lagrange }

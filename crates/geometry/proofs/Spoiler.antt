@@ -4,11 +4,10 @@ use mathlib.Core.Path.{_≡_, refl, ap}
 use mathlib.Core.Bool.{Bool, _&&_, not}
 use mathlib.Core.List.{List}
 use mathlib.Core.Logic.{_↔_}
-use Prim.Native.Nat.{ℕ, zero, suc, _+_, _*_, _-_, _≤_, _<_}
+use Prim.Native.Nat.{ℕ, zero, suc, _+_, _-_, _≤_, _<_}
 use native.Mathlib.Nat.{le-antisymm}
 use native.Mathlib.Decide.{decLt}
 use native.Mathlib.Omega.{arith}
-use lib.IntN.{pos}
 use lib.ListN.{getD}
 use Rattle.refusal.specs.Check.{Decides}
 use Rattle.refusal.proofs.Plain.{yes-decides, no-decides, not-decided, by-equal, both-decided}
@@ -17,13 +16,11 @@ use Rattle.geometry.specs.declared.Verdict.the-variants.{Yes, No}
 use Rattle.geometry.specs.Mark.{Marked, marked}
 use Rattle.geometry.specs.Near.{Passable, Permitted}
 use Rattle.geometry.specs.Samples.{Samples}
-use Rattle.geometry.specs.Shifted.{NearAt}
 use Rattle.geometry.specs.Spoiler.{Clear, Spoiler, Told, Says, isYes}
 use Rattle.geometry.specs.Sweep.{Ranged}
-use Rattle.geometry.specs.Test.{moved, lowest, judged, permits}
-use Rattle.geometry.proofs.Decide.{by-cond, reaches-decided}
+use Rattle.geometry.specs.Test.{lowest, judged, permits}
+use Rattle.geometry.proofs.Decide.{by-cond}
 use Rattle.geometry.proofs.Link.{decides-near}
-use Rattle.geometry.proofs.Move.{stands}
 
 -- ---- the spoiler
 lowest-le : {P : ℕ → Type 0} {i j k l : ℕ} → Spoiler P i j k → Spoiler P i j l → k ≤ l
@@ -95,39 +92,23 @@ lowest-told P f i j (suc n) e d =
     (λ t. told-more P i j (lowest f (suc (suc i)) n) (d (suc i) (omega arith) (omega arith) .right t) (lowest-told P f (suc i) j n (omega arith) (λ k a b. d k (omega arith) b)))
     (λ t. record { after = omega arith; before = omega arith; spoils = d (suc i) (omega arith) (omega arith) .wrong t; lowest = λ l a b. absurd (omega arith) })
 
--- of any coordinates, about `Passable` of the coordinates moved
-abbrev pub PassableAt : Samples → ℕ → ℕ → ℕ → ℕ → Type 0
-PassableAt xs i j e k =
-    (Marked (xs .marks) k → ⊥)
-    × NearAt (moved (getD (xs .across) i (pos 0))) (moved (getD (xs .upward) i (pos 0))) (moved (getD (xs .across) j (pos 0))) (moved (getD (xs .upward) j (pos 0)))
-    (moved (getD (xs .across) k (pos 0))) (moved (getD (xs .upward) k (pos 0))) (e * e)
-
-judged-told : (xs : Samples) (i j e : ℕ) → Told (PassableAt xs i j e) i j (judged xs i j e)
+pub judged-told : (xs : Samples) (i j e : ℕ) → Says xs i j e (judged xs i j e)
 unfolding judged
-judged-told xs i j e = lowest-told (PassableAt xs i j e) _ i j (j - suc i) refl (λ k a b. unmarked-and (xs .marks) k _ (reaches-decided _ _ _ _ _ _ (e * e)))
-
-pub permits-told : (xs : Samples) (i j e : ℕ) → Decides (Clear (PassableAt xs i j e) i j) (permits xs i j e)
-unfolding permits
-permits-told xs i j e = by (judged xs i j e) (judged-told xs i j e)
-  where
-    by : (v : Verdict) → Told (PassableAt xs i j e) i j v → Decides (Clear (PassableAt xs i j e) i j) (isYes v)
-    by Yes c = yes-decides c
-    by (No k) s = no-decides (not-clear s)
-
--- of coordinates in range, about the stretch
-pub judged-says : (xs : Samples) (i j e : ℕ) → Ranged xs (j + 1) → i < j → Says xs i j e (judged xs i j e)
-unfolding judged
-judged-says xs i j e h o =
+judged-told xs i j e =
     by (judged xs i j e)
-    (lowest-told (Passable xs i j e) _ i j (j - suc i) refl
-    (λ k a b.
-    unmarked-and (xs .marks) k _ (decides-near (stands _ (h .across .each i (omega arith))) (stands _ (h .upward .each i (omega arith))) (stands _ (h .across .each j (omega arith))) (stands _ (h .upward .each j (omega arith)))
-    (stands _ (h .across .each k (omega arith))) (stands _ (h .upward .each k (omega arith))) (reaches-decided _ _ _ _ _ _ (e * e)))))
+    (lowest-told (Passable xs i j e) _ i j (j - suc i) refl (λ k a b. unmarked-and (xs .marks) k _ decides-near))
   where
     by : (v : Verdict) → Told (Passable xs i j e) i j v → Says xs i j e v
     by Yes c = record { each = c }
     by (No k) s = s
 
-pub permits-decided : (xs : Samples) (i j e : ℕ) → Ranged xs (j + 1) → i < j → Decides (Permitted xs i j e) (permits xs i j e)
+pub permits-told : (xs : Samples) (i j e : ℕ) → Decides (Permitted xs i j e) (permits xs i j e)
 unfolding permits
-permits-decided xs i j e h o = says-decides xs i j e (judged xs i j e) (judged-says xs i j e h o)
+permits-told xs i j e = says-decides xs i j e (judged xs i j e) (judged-told xs i j e)
+
+-- the same, of a stretch whose coordinates are in range
+pub judged-says : (xs : Samples) (i j e : ℕ) → Ranged xs (j + 1) → i < j → Says xs i j e (judged xs i j e)
+judged-says xs i j e h o = judged-told xs i j e
+
+pub permits-decided : (xs : Samples) (i j e : ℕ) → Ranged xs (j + 1) → i < j → Decides (Permitted xs i j e) (permits xs i j e)
+permits-decided xs i j e h o = permits-told xs i j e

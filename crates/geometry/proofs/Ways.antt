@@ -1,97 +1,20 @@
--- The three answers of the code, of the ways from a segment's beginning to its end and to a sample, decide `NearBy`. The ways are moved by 32,768, which makes them
--- points of the plane over ℕ. Assumes nothing.
+-- What the distance test works out, of ways between samples in range, fits the numbers that hold it. Assumes nothing.
 use mathlib.Core.Path.{_≡_, refl}
-use mathlib.Core.Bool.{Bool, true, false, true≢false}
-use Prim.Native.Nat.{ℕ, _+_, _*_, _-_, _≤_, _<_}
+use mathlib.Core.Bool.{false, true≢false}
+use Prim.Native.Nat.{ℕ, _+_, _*_, _≤_, _<_}
 use native.Mathlib.Nat.{mul-le-mul}
 use native.Mathlib.Omega.{arith}
-use lib.Dec.{T, leb}
+use lib.Dec.{T}
 use lib.IntN.{ℤ, pos, negsuc, natAbs, _+ℤ_, _-ℤ_, _*ℤ_}
 use lib.Signed.{leZ, mag, nonNeg}
 use mir.Syntax.{w64}
 use mir.Val.{SFits, toZ, ofZ}
 use mir.Facts.{toZ-ofZ}
-use Rattle.refusal.specs.Check.{Decides}
-use Rattle.algebra.specs.Gap.{gap}
-use Rattle.algebra.specs.Parts.{up, dn, sq, Is}
-use Rattle.algebra.proofs.Gap.{gap-sq, square-unique}
-use Rattle.algebra.proofs.Parts.{is-sub, is-minus, is-plus, is-times, is-sq, is-le, is-more, size-add, size-sub, size-mul, size-fits, square-is}
+use Rattle.algebra.specs.Parts.{sq}
+use Rattle.algebra.proofs.Parts.{size-add, size-sub, size-mul, size-fits, square-is}
 use Rattle.geometry.specs.Coordinate.{Coord}
-use Rattle.geometry.specs.Shifted.{apart, NearAt}
-use Rattle.geometry.specs.Way.{Way, NearBy}
-use Rattle.geometry.specs.Test.{fore, aft, cross-sq}
-use Rattle.geometry.proofs.Decide.{behind-test, past-test, abreast-test}
-use Rattle.geometry.proofs.Link.{by-points}
-
--- how far a way is moved, and a way moved so
-abbrev K : ℕ
-K = 32768
-
-abbrev from : ℤ → ℕ
-from z = K + up z - dn z
-
-from-is : (z : ℤ) → natAbs z ≤ 32768 → Is z (from z) K
-from-is (pos n) h = omega arith
-from-is (negsuc n) h = omega arith
-
-squares : (z : ℤ) (x y : ℕ) → Is z x y → sq z ≡ gap x y * gap x y
-squares z x y h = square-unique _ _ x y (is-sq z x y h) (gap-sq x y)
-
--- the dot and the cross product
-abbrev pub dot : ℤ → ℤ → ℤ → ℤ → ℤ
-dot dx dy px py = px *ℤ dx +ℤ py *ℤ dy
-
-abbrev pub cross : ℤ → ℤ → ℤ → ℤ → ℤ
-cross dx dy px py = px *ℤ dy -ℤ py *ℤ dx
-
-module _ {dx dy px py : ℤ} (reach : ℕ) (w : Way dx dy) (v : Way px py) where
-  b : Is dx (from dx) K
-  b = from-is dx (w .across)
-
-  y : Is dy (from dy) K
-  y = from-is dy (w .upward)
-
-  q : Is px (from px) K
-  q = from-is px (v .across)
-
-  z : Is py (from py) K
-  z = from-is py (v .upward)
-
-  by-ways : {t : Bool} → Decides (NearAt K K (from dx) (from dy) (from px) (from py) reach) t → Decides (NearBy dx dy px py reach) t
-  by-ways = by-points b y q z
-
-  dot-is : Is (dot dx dy px py) (fore K K (from dx) (from dy) (from px) (from py)) (aft K K (from dx) (from dy) (from px) (from py))
-  dot-is = is-plus _ _ _ _ _ _ (is-times _ _ _ _ _ _ q b) (is-times _ _ _ _ _ _ z y)
-
-  cross-is : sq (cross dx dy px py) ≡ cross-sq K K (from dx) (from dy) (from px) (from py)
-  unfolding cross-sq
-  cross-is = squares _ _ _ (is-minus _ _ _ _ _ _ (is-times _ _ _ _ _ _ q y) (is-times _ _ _ _ _ _ z b))
-
-  begin-is : sq px + sq py ≡ apart (from px) (from py) K K
-  unfolding apart
-  begin-is = rw (squares px _ _ q, squares py _ _ z)
-
-  end-is : sq (px -ℤ dx) + sq (py -ℤ dy) ≡ apart (from px) (from py) (from dx) (from dy)
-  unfolding apart
-  end-is = rw (squares _ _ _ (is-sub _ _ _ _ K q b), squares _ _ _ (is-sub _ _ _ _ K z y))
-
-  length-is : sq dx + sq dy ≡ apart (from dx) (from dy) K K
-  unfolding apart
-  length-is = rw (squares dx _ _ b, squares dy _ _ y)
-
-  pub behind-way : leZ (dot dx dy px py) (pos 0) ≡ true → Decides (NearBy dx dy px py reach) (leb (sq px + sq py) reach)
-  behind-way t = by-ways (rw begin-is (behind-test K K (from dx) (from dy) (from px) (from py) reach (is-le _ _ _ dot-is t)))
-
-  module _ (t : leZ (dot dx dy px py) (pos 0) ≡ false) where
-    pub past-way : sq dx + sq dy ≤ natAbs (dot dx dy px py) → Decides (NearBy dx dy px py reach) (leb (sq (px -ℤ dx) + sq (py -ℤ dy)) reach)
-    past-way h =
-        by-ways (rw end-is (past-test K K (from dx) (from dy) (from px) (from py) reach (omega (arith, is-more _ _ _ dot-is t .0, length-is))))
-
-    pub abreast-way : natAbs (dot dx dy px py) < sq dx + sq dy
-        → Decides (NearBy dx dy px py reach) (leb (sq (cross dx dy px py)) (reach * (sq dx + sq dy)))
-    abreast-way h =
-        let m = is-more _ _ _ dot-is t in
-        by-ways (rw (cross-is, length-is) (abreast-test K K (from dx) (from dy) (from px) (from py) reach (omega (arith, m .0, m .1)) (omega (arith, m .0, length-is))))
+use Rattle.geometry.specs.Nearest.{dot, cross}
+use Rattle.geometry.specs.Way.{Way}
 
 -- ---- between samples
 pub way-size : {a b : ℤ} → Coord a → Coord b → natAbs (b -ℤ a) ≤ 32768

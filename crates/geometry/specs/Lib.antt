@@ -1,8 +1,8 @@
 pub mod Coordinate
 pub mod Mark
 pub mod Near
+pub mod Nearest
 pub mod Samples
-pub mod Shifted
 pub mod Spoiler
 pub mod Sweep
 pub mod Test

@@ -8,6 +8,7 @@ ghost use Rattle.algebra.specs.Parts.{sq};
 ghost use Rattle.geometry.specs.Coordinate.{Coord, InRange, coordinateOk, coordinatesOk};
 ghost use Rattle.geometry.specs.Mark.{markOk, marksOk};
 ghost use Rattle.geometry.specs.Near.{Along};
+ghost use Rattle.geometry.specs.Nearest.{nearest, distance};
 ghost use Rattle.geometry.specs.Samples.{samples};
 ghost use Rattle.geometry.specs.Spoiler.{Clear, Told, Says};
 ghost use Rattle.geometry.specs.Sweep.{Ranged, FirstMarked, LastMarked};
@@ -86,20 +87,56 @@ fn squared(dx: i64, dy: i64) -> u64
     (dx * dx + dy * dy) as u64
 }
 
-// Whether a sample, (px, py) from a segment's beginning, lies within reach, a squared tolerance; (dx, dy) is the way to the segment's end, length its square.
+// Where on a segment the point nearest to a sample lies: the three cases are drawn in specs/Nearest.antt.
+enum Nearest {
+    Beginning,
+    End,
+    Between,
+}
+
+// A fraction of two whole numbers, top / bottom.
+struct Fraction {
+    top: u64,
+    bottom: u64,
+}
+
+// Where the nearest point lies, of a segment with the way (dx, dy) to its end, length its square, and the way (px, py) to the sample.
+fn nearest_point(dx: i64, dy: i64, length: u64, px: i64, py: i64) -> Nearest
+    requires { ⌜ (Way dx dy) × (Way px py) × (length ≡ sq dx + sq dy) ⌝ }
+    ensures { λ r. ⌜ r ≡ nearest dx dy px py ⌝ }
+{
+    let dot = px * dx + py * dy;
+    if dot <= 0 {
+        return Nearest::Beginning;
+    }
+    if length <= dot as u64 {
+        return Nearest::End;
+    }
+    Nearest::Between
+}
+
+// The squared distance of the sample from there.
+fn distance(dx: i64, dy: i64, length: u64, px: i64, py: i64) -> Fraction
+    requires { ⌜ (Way dx dy) × (Way px py) × (length ≡ sq dx + sq dy) ⌝ }
+    ensures { λ r. ⌜ r ≡ distance dx dy px py ⌝ }
+{
+    match nearest_point(dx, dy, length, px, py) {
+        Nearest::Beginning => Fraction { top: squared(px, py), bottom: 1 },
+        Nearest::End => Fraction { top: squared(px - dx, py - dy), bottom: 1 },
+        Nearest::Between => {
+            let cross = px * dy - py * dx;
+            Fraction { top: (cross * cross) as u64, bottom: length }
+        }
+    }
+}
+
+// Whether the sample lies within reach, a squared tolerance.
 fn near(dx: i64, dy: i64, length: u64, px: i64, py: i64, reach: u64) -> bool
     requires { ⌜ (Way dx dy) × (Way px py) × (length ≡ sq dx + sq dy) × (reach ≤ 4294967296) ⌝ }
     ensures { λ r. ⌜ Decides (NearBy dx dy px py reach) r ⌝ }
 {
-    let dot = px * dx + py * dy;
-    if dot <= 0 {
-        return squared(px, py) <= reach;
-    }
-    if length <= dot as u64 {
-        return squared(px - dx, py - dy) <= reach;
-    }
-    let cross = px * dy - py * dx;
-    (cross * cross) as u64 <= reach * length
+    let d = distance(dx, dy, length, px, py);
+    d.top <= reach * d.bottom
 }
 
 // A verdict on samples: yes, or no with the lowest that spoils.
