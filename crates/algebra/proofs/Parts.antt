@@ -2,17 +2,17 @@
 use mathlib.Core.Path.{_≡_, refl, ap, sym, _∙_}
 use mathlib.Core.Bool.{Bool, true, false, not, cond, true≢false}
 use Prim.Native.Nat.{ℕ, zero, suc, _+_, _*_, _-_, _≤_, _<_}
-use native.Mathlib.Nat.{mul-zero}
+use native.Mathlib.Nat.{mul-zero, one-mul}
 use native.Mathlib.Omega.{arith}
 use lib.Dec.{T, ltb, ltb→lt, nltb→le}
 use lib.IntN.{ℤ, pos, negsuc, negℤ, natAbs, subℕ, _+ℤ_, _-ℤ_, _*ℤ_}
 use lib.Signed.{leZ}
-use borrow.Author.Tests.{leb-true, leb-false}
+use borrow.Author.Tests.{leb-true, leb-false, le-leb, lt-leb}
 use mir.Syntax.{w64}
 use mir.Val.{SFits}
-use Rattle.algebra.specs.Gap.{Square}
+use Rattle.algebra.specs.Square.{Square}
 use Rattle.algebra.specs.Parts.{up, dn, sq, Is}
-use Rattle.algebra.proofs.Gap.{square-swap, up-sq}
+use Rattle.algebra.proofs.Square.{square-swap, up-sq}
 
 up-cond : (t : Bool) (x y : ℤ) (P : ℤ → Type 0) → (T t → P x) → (T (not t) → P y) → P (cond t x y)
 up-cond true x y P f g = f tt
@@ -63,8 +63,9 @@ dn-mul : (k : ℕ) (z : ℤ) → dn (pos k *ℤ z) ≡ k * dn z
 dn-mul k (pos n) = sym (mul-zero k)
 dn-mul k (negsuc n) = dn-neg (pos (k * suc n))
 
-pub is-sub : (a b : ℤ) (x y k : ℕ) → Is a x k → Is b y k → Is (a -ℤ b) x y
-is-sub a b x y k h g = omega (arith, parts-sub a b)
+-- the parts themselves
+pub is-own : (z : ℤ) → Is z (up z) (dn z)
+is-own z = record { eq = omega arith }
 
 pub is-mul : (r : ℕ) (a : ℤ) (x y : ℕ) → Is a x y → Is (pos r *ℤ a) (r * x) (r * y)
 is-mul r a x y h = omega (arith, up-mul r a, dn-mul r a, ap (λ (t : ℕ). r * t) (h .eq))
@@ -78,6 +79,10 @@ is-sq (negsuc n) x y h = up-sq x y (suc n) (omega arith)
 
 pub is-plus : (a b : ℤ) (x y z w : ℕ) → Is a x y → Is b z w → Is (a +ℤ b) (x + z) (y + w)
 is-plus a b x y z w h g = omega (arith, parts-add a b)
+
+pub one-times : (z : ℤ) → pos 1 *ℤ z ≡ z
+one-times (pos n) = simp one-mul
+one-times (negsuc n) = simp one-mul
 
 -- the parts of a product
 cross-terms : (m n x y z w : ℕ) → x ≡ m + y → z ≡ n + w → m * n + (x * w + y * z) ≡ x * z + y * w
@@ -99,6 +104,24 @@ is-le (negsuc n) x y h t = omega arith
 pub is-more : (z : ℤ) (x y : ℕ) → Is z x y → leZ z (pos 0) ≡ false → (x ≡ y + natAbs z) × (1 ≤ natAbs z)
 is-more (pos n) x y h t = (omega arith, leb-false n 0 t)
 is-more (negsuc n) x y h t = absurd (true≢false t)
+
+-- and one of a natural k and z
+pub is-least : (k : ℕ) (z : ℤ) (x y : ℕ) → Is z x y → leZ (pos k) z ≡ true → y + k ≤ x
+is-least k (pos n) x y h t = omega (arith, leb-true k n t)
+is-least k (negsuc n) x y h t = absurd (true≢false (sym t))
+
+pub is-below : (k : ℕ) (z : ℤ) (x y : ℕ) → Is z x y → leZ (pos k) z ≡ false → x < y + k
+is-below k (pos n) x y h t = omega (arith, leb-false k n t)
+is-below k (negsuc n) x y h t = omega arith
+
+-- where z is above 0, it is one of k and the size of z
+pub above-least : (k : ℕ) (z : ℤ) → leZ z (pos 0) ≡ false → k ≤ natAbs z → leZ (pos k) z ≡ true
+above-least k (pos n) t h = le-leb k n h
+above-least k (negsuc n) t h = absurd (true≢false t)
+
+pub above-below : (k : ℕ) (z : ℤ) → leZ z (pos 0) ≡ false → natAbs z < k → leZ (pos k) z ≡ false
+above-below k (pos n) t h = lt-leb k n h
+above-below k (negsuc n) t h = absurd (true≢false t)
 
 -- ---- sizes
 size-parts : (z : ℤ) → natAbs z ≡ up z + dn z

@@ -4,9 +4,9 @@ use mathlib.Core.Path.{_≡_, ap}
 use Prim.Native.Nat.{ℕ, _+_, _*_, _-_, _≤_, _<_}
 use native.Mathlib.Nat.{mul-le-mul, mul-le-mul-left}
 use native.Mathlib.Omega.{arith}
-use Rattle.algebra.proofs.Gap.{two-mul-le}
+use Rattle.algebra.proofs.Square.{two-mul-le}
 use Rattle.geometry.specs.declared.Nearest.the-variants.{Beginning, End, Between}
-use Rattle.geometry.specs.Nearest.{NoneNearer, Closest, Lies, Exact}
+use Rattle.geometry.specs.Nearest.{NoneNearer, Lies, Exact}
 use Rattle.geometry.proofs.Exact.{attained-closest}
 
 pub record Frame (M : ℕ → ℕ → ℕ) (U L P N C : ℕ) : Type 0 where

@@ -1,22 +1,15 @@
 -- The ways v = (dx, dy) to a segment's end and u = (px, py) to a sample give a `Frame`. Assumes nothing.
-use mathlib.Core.Path.{_≡_, ap}
+use mathlib.Core.Path.{_≡_}
 use Prim.Native.Nat.{ℕ, _+_, _*_}
 use native.Mathlib.Omega.{arith}
 use lib.IntN.{ℤ, pos, _-ℤ_, _*ℤ_}
-use Rattle.algebra.specs.Gap.{Square}
+use Rattle.algebra.specs.Square.{Square}
 use Rattle.algebra.specs.Parts.{up, dn, sq, Is}
-use Rattle.algebra.proofs.Gap.{square-mul, square-swap}
-use Rattle.algebra.proofs.Parts.{is-mul, is-minus, is-plus, is-times, is-sq}
+use Rattle.algebra.proofs.Square.{square-mul, square-swap, square-scale, square-sum}
+use Rattle.algebra.proofs.Parts.{is-own, is-mul, is-minus, is-plus, is-times, is-sq}
 use Rattle.geometry.specs.Nearest.{dot, cross}
 use Rattle.geometry.specs.Way.{offsetBy}
 use Rattle.geometry.proofs.Core.{Frame}
-
--- the square m of a sum of two differences, whose squares are k and l
-sum-square : (m k l p n x y : ℕ) → Square m (p + x) (n + y) → Square k p n → Square l x y → m + 2 * (p * y + n * x) ≡ k + l + 2 * (p * x + n * y)
-sum-square m k l p n x y g h j = omega arith
-
-scale : (r u x y : ℕ) → Square u x y → Square (r * r * u) (r * x) (r * y)
-scale r u x y h = omega (arith, ap (λ (t : ℕ). r * r * t) h)
 
 -- the dot and the cross product are each a sum of two products; what their squares add up to
 both : (m n k₁ k₂ k₃ k₄ c₁ d₁ c₂ d₂ : ℕ) → m + 2 * c₁ ≡ k₁ + k₂ + 2 * d₁ → n + 2 * c₂ ≡ k₃ + k₄ + 2 * d₂ → d₁ + d₂ ≡ c₁ + c₂ → m + n ≡ k₁ + k₂ + (k₃ + k₄)
@@ -27,12 +20,8 @@ exchange : (x y z w x′ y′ z′ w′ : ℕ)
     ≡ (x * z + y * w) * (x′ * w′ + y′ * z′) + (x * w + y * z) * (x′ * z′ + y′ * w′) + ((x * z′ + y * w′) * (x′ * z + y′ * w) + (x * w′ + y * z′) * (x′ * w + y′ * z))
 exchange x y z w x′ y′ z′ w′ = omega arith
 
--- an integer is the difference of its parts
-own : (z : ℤ) → Is z (up z) (dn z)
-own z = record { eq = omega arith }
-
-part : (z : ℤ) → Square (sq z) (up z) (dn z)
-part z = is-sq z (up z) (dn z) (own z)
+parts-square : (z : ℤ) → Square (sq z) (up z) (dn z)
+parts-square z = is-sq z (up z) (dn z) (is-own z)
 
 -- the two sides of a product
 abbrev more : ℤ → ℤ → ℕ
@@ -42,12 +31,12 @@ abbrev less : ℤ → ℤ → ℕ
 less a b = up a * dn b + dn a * up b
 
 times : (a b : ℤ) → Is (a *ℤ b) (more a b) (less a b)
-times a b = is-times a b _ _ _ _ (own a) (own b)
+times a b = is-times a b _ _ _ _ (is-own a) (is-own b)
 
 part-mul : (a b : ℤ) → Square (sq a * sq b) (more a b) (less a b)
-part-mul a b = square-mul _ _ _ _ _ _ (part a) (part b)
+part-mul a b = square-mul _ _ _ _ _ _ (parts-square a) (parts-square b)
 
--- of u·v
+-- the two sides of u·v
 abbrev pub fore : ℤ → ℤ → ℤ → ℤ → ℕ
 fore dx dy px py = more px dx + more py dy
 
@@ -64,8 +53,8 @@ module _ (dx dy px py : ℤ) where
   products : sq (dot dx dy px py) + sq (cross dx dy px py) ≡ sq px * sq dx + sq py * sq dy + (sq px * sq dy + sq py * sq dx)
   products =
       both _ _ _ _ _ _ _ _ _ _
-      (sum-square _ _ _ _ _ _ _ (is-sq _ _ _ dot-is) (part-mul px dx) (part-mul py dy))
-      (sum-square _ _ _ _ _ _ _ (is-sq _ _ _ cross-is) (part-mul px dy) (square-swap _ _ _ (part-mul py dx)))
+      (square-sum _ _ _ _ _ _ _ (is-sq _ _ _ dot-is) (part-mul px dx) (part-mul py dy))
+      (square-sum _ _ _ _ _ _ _ (is-sq _ _ _ cross-is) (part-mul px dy) (square-swap _ _ _ (part-mul py dx)))
       (exchange (up px) (dn px) (up dx) (dn dx) (up py) (dn py) (up dy) (dn dy))
 
   lagrange : (sq dx + sq dy) * (sq px + sq py) + 2 * (fore dx dy px py * aft dx dy px py)
@@ -77,7 +66,7 @@ module _ (dx dy px py : ℤ) where
 
   axis : (p d : ℤ) (r s : ℕ) → sq (pos r *ℤ p -ℤ pos s *ℤ d) + 2 * (r * s * more p d) ≡ r * r * sq p + 2 * (r * s * less p d) + s * s * sq d
   axis p d r s =
-      omega (arith, sum-square _ _ _ _ _ _ _ (is-sq _ _ _ (is-minus _ _ _ _ _ _ (is-mul r p _ _ (own p)) (is-mul s d _ _ (own d)))) (scale r _ _ _ (part p)) (square-swap _ _ _ (scale s _ _ _ (part d))))
+      omega (arith, square-sum _ _ _ _ _ _ _ (is-sq _ _ _ (is-minus _ _ _ _ _ _ (is-mul r p _ _ (is-own p)) (is-mul s d _ _ (is-own d)))) (square-scale r _ _ _ (parts-square p)) (square-swap _ _ _ (square-scale s _ _ _ (parts-square d))))
 
   scaled : (r s : ℕ) → offsetBy dx dy px py r s + 2 * (r * s * fore dx dy px py)
       ≡ r * r * (sq px + sq py) + 2 * (r * s * aft dx dy px py) + s * s * (sq dx + sq dy)

@@ -1,7 +1,7 @@
 -- What the distance test works out, of ways between samples in range, fits the numbers that hold it. Assumes nothing.
 use mathlib.Core.Path.{_≡_, refl}
 use mathlib.Core.Bool.{false, true≢false}
-use Prim.Native.Nat.{ℕ, _+_, _*_, _≤_, _<_}
+use Prim.Native.Nat.{_+_, _*_, _≤_, _<_}
 use native.Mathlib.Nat.{mul-le-mul}
 use native.Mathlib.Omega.{arith}
 use lib.Dec.{T}
@@ -13,7 +13,9 @@ use mir.Facts.{toZ-ofZ}
 use Rattle.algebra.specs.Parts.{sq}
 use Rattle.algebra.proofs.Parts.{size-add, size-sub, size-mul, size-fits, square-is}
 use Rattle.geometry.specs.Coordinate.{Coord}
-use Rattle.geometry.specs.Nearest.{dot, cross}
+use Rattle.geometry.specs.declared.Nearest.{Nearest}
+use Rattle.geometry.specs.declared.Nearest.the-variants.{Beginning, End, Between}
+use Rattle.geometry.specs.Nearest.{dot, cross, distanceFrom}
 use Rattle.geometry.specs.Way.{Way}
 
 -- ---- between samples
@@ -124,3 +126,8 @@ module _ {dx dy px py : ℤ} (w : Way dx dy) (v : Way px py) where
 
   pub square-fits : SFits w64 (pos (sq (cross dx dy px py)))
   square-fits = size-fits (pos (sq (cross dx dy px py))) (omega (arith, cross-square))
+
+pub bottom-size : {dx dy : ℤ} → Way dx dy → (px py : ℤ) (c : Nearest) → distanceFrom c dx dy px py .bottom ≤ 2147483648
+bottom-size w px py Beginning = omega arith
+bottom-size w px py End = omega arith
+bottom-size w px py Between = omega (arith, mul-le-mul (w .across) (w .across), mul-le-mul (w .upward) (w .upward))

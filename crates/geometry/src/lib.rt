@@ -121,11 +121,20 @@ fn distance(dx: i64, dy: i64, length: u64, px: i64, py: i64) -> Fraction
     ensures { λ r. ⌜ r ≡ distance dx dy px py ⌝ }
 {
     match nearest_point(dx, dy, length, px, py) {
-        Nearest::Beginning => Fraction { top: squared(px, py), bottom: 1 },
-        Nearest::End => Fraction { top: squared(px - dx, py - dy), bottom: 1 },
+        Nearest::Beginning => Fraction {
+            top: squared(px, py),
+            bottom: 1,
+        },
+        Nearest::End => Fraction {
+            top: squared(px - dx, py - dy),
+            bottom: 1,
+        },
         Nearest::Between => {
             let cross = px * dy - py * dx;
-            Fraction { top: (cross * cross) as u64, bottom: length }
+            Fraction {
+                top: (cross * cross) as u64,
+                bottom: length,
+            }
         }
     }
 }

@@ -1,11 +1,10 @@
 -- The starred cases hold: each is worked out. Assumes nothing.
 use mathlib.Core.Path.{refl}
 use Rattle.refusal.specs.Check.{allBelow}
-use Rattle.algebra.specs.Gap.{gap}
 use Rattle.geometry.specs.Coordinate.{coordinateOk, coordinatesOk}
 use Rattle.geometry.specs.Mark.{marked}
-use Rattle.geometry.specs.Shifted.{apart}
-use Rattle.geometry.specs.Test.{cross-sq, reaches, lowest, judged, permits}
+use Rattle.geometry.specs.Nearest.{nearest}
+use Rattle.geometry.specs.Test.{reaches, lowest, judged, permits}
 use Rattle.family.specs.Family.{cells, value, below, least, least-by, via, hop, next, along, rank, total, segments}
 use Rattle.costs.specs.Walk.{perm}
 use Rattle.record.specs.Record.{word, signed, signedAt, counter, editionOk, spareOk, fieldsOk, recordOutcome}
@@ -18,7 +17,7 @@ abbrev _and_ : {A B : Type 0} → A → B → A × B
 a and b = (a, b)
 
 worked : AllWorked starred
-unfolding coordinatesOk coordinateOk marked perm permits judged lowest allBelow reaches apart gap cross-sq cells value below least least-by via hop next along rank total segments
+unfolding coordinatesOk coordinateOk marked perm permits judged lowest allBelow reaches nearest cells value below least least-by via hop next along rank total segments
     pauseLineOf fileOutcome fileLengthOk recordsOutcome recordOutcome counter editionOk spareOk fieldsOk word signed signedAt
     oldIncrease difference bothWithBoot increase increaseAt pauseSum
 worked =
