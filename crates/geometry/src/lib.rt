@@ -1,18 +1,18 @@
 // Whether a coordinate and a mark are in range, and whether a stretch of samples may be drawn as one segment, in whole numbers.
 ghost use mathlib.Core.Path.{_≡_};
 ghost use Prim.Native.Nat.{_+_, _*_, _≤_, _<_};
-ghost use lib.IntN.{pos, natAbs, _-ℤ_};
+ghost use lib.IntN.{pos, natAbs};
 ghost use lib.ListN.{length, getD};
 ghost use Rattle.refusal.specs.Check.{Decides};
 ghost use Rattle.algebra.specs.Parts.{sq};
 ghost use Rattle.geometry.specs.Coordinate.{Coord, InRange, coordinateOk, coordinatesOk};
 ghost use Rattle.geometry.specs.Mark.{markOk, marksOk};
 ghost use Rattle.geometry.specs.Near.{Along};
-ghost use Rattle.geometry.specs.Nearest.{nearest, distance};
+ghost use Rattle.geometry.specs.Nearest.{distanceFrom, distance};
 ghost use Rattle.geometry.specs.Samples.{samples};
 ghost use Rattle.geometry.specs.Spoiler.{Clear, Told, Says};
 ghost use Rattle.geometry.specs.Sweep.{Ranged, FirstMarked, LastMarked};
-ghost use Rattle.geometry.specs.Way.{Way, NearBy};
+ghost use Rattle.geometry.specs.Way.{way, Way, NearBy};
 
 // The range of a coordinate.
 pub const COORDINATE_LEAST: i16 = -16384;
@@ -74,7 +74,7 @@ pub fn marks_ok(s: &[u8], n: usize) -> bool
 // The way from one sample to another, across or up.
 fn way(xs: &[i16], from: usize, to: usize) -> i64
     requires { ⌜ (from < length (now xs)) × (to < length (now xs)) × (Coord (getD (now xs) from (pos 0))) × (Coord (getD (now xs) to (pos 0))) ⌝ }
-    ensures { λ r. ⌜ r ≡ getD (now (xs .entry)) to (pos 0) -ℤ getD (now (xs .entry)) from (pos 0) ⌝ }
+    ensures { λ r. ⌜ r ≡ way (now (xs .entry)) from to ⌝ }
 {
     xs[to] as i64 - xs[from] as i64
 }
@@ -100,27 +100,12 @@ struct Fraction {
     bottom: u64,
 }
 
-// Where the nearest point lies, of a segment with the way (dx, dy) to its end, length its square, and the way (px, py) to the sample.
-fn nearest_point(dx: i64, dy: i64, length: u64, px: i64, py: i64) -> Nearest
+// The squared distance of a sample from the point nearest to it, in each case; the way (dx, dy) leads to the segment's end, length is its square, and (px, py) to the sample.
+fn distance_from(at: Nearest, dx: i64, dy: i64, length: u64, px: i64, py: i64) -> Fraction
     requires { ⌜ (Way dx dy) × (Way px py) × (length ≡ sq dx + sq dy) ⌝ }
-    ensures { λ r. ⌜ r ≡ nearest dx dy px py ⌝ }
+    ensures { λ r. ⌜ r ≡ distanceFrom at dx dy px py ⌝ }
 {
-    let dot = px * dx + py * dy;
-    if dot <= 0 {
-        return Nearest::Beginning;
-    }
-    if length <= dot as u64 {
-        return Nearest::End;
-    }
-    Nearest::Between
-}
-
-// The squared distance of the sample from there.
-fn distance(dx: i64, dy: i64, length: u64, px: i64, py: i64) -> Fraction
-    requires { ⌜ (Way dx dy) × (Way px py) × (length ≡ sq dx + sq dy) ⌝ }
-    ensures { λ r. ⌜ r ≡ distance dx dy px py ⌝ }
-{
-    match nearest_point(dx, dy, length, px, py) {
+    match at {
         Nearest::Beginning => Fraction {
             top: squared(px, py),
             bottom: 1,
@@ -137,6 +122,21 @@ fn distance(dx: i64, dy: i64, length: u64, px: i64, py: i64) -> Fraction
             }
         }
     }
+}
+
+// The squared distance of the sample from the segment: first where the nearest point lies, then how far away it is.
+fn distance(dx: i64, dy: i64, length: u64, px: i64, py: i64) -> Fraction
+    requires { ⌜ (Way dx dy) × (Way px py) × (length ≡ sq dx + sq dy) ⌝ }
+    ensures { λ r. ⌜ r ≡ distance dx dy px py ⌝ }
+{
+    let dot = px * dx + py * dy;
+    if dot <= 0 {
+        return distance_from(Nearest::Beginning, dx, dy, length, px, py);
+    }
+    if length <= dot as u64 {
+        return distance_from(Nearest::End, dx, dy, length, px, py);
+    }
+    distance_from(Nearest::Between, dx, dy, length, px, py)
 }
 
 // Whether the sample lies within reach, a squared tolerance.
