@@ -1,8 +1,10 @@
 -- `geometry::distance_from` meets its contract: what each case works out is the fraction of that case. Assumes nothing.
 use borrow.Author.Needs.{needs}
-use mathlib.Core.Path.{refl}
+use mathlib.Core.Path.{_≡_, refl}
+use Prim.Native.Nat.{ℕ}
 use native.Mathlib.Omega.{arith}
 use mir.Facts.{toZ-ofZ}
+use Rattle.geometry.specs.declared.Fraction.{Fraction}
 use Rattle.geometry.proofs.Ways.{ways-back, products-fit, rest-size, rest-fits, rest-back, cross-fits, square-back, cross-square, square-fits}
 use Rattle.geometry.proofs.distance_from.Statement.{statement}
 use Rattle.geometry.proofs.distance_from.Tie as tie
@@ -69,22 +71,26 @@ cast-t15 c =
     let p = c .before .before .pre in
     rw (square-back (p .0) (p .1), toZ-ofZ (square-fits (p .0) (p .1))) (tt, omega (arith, cross-square (p .0) (p .1)))
 
+-- fractions of equal parts
+parts : {t u b d : ℕ} → t ≡ u → b ≡ d → _≡_ {A = Fraction} (record { top = t; bottom = b }) (record { top = u; bottom = d })
+parts e f = rw (e, f) refl
+
 returns : tie.Need-returns
 returns c =
     let p = c .before .before .before .pre in
     let e = ways-back (p .0) (p .1) in
-    rw (c .before .enum-told .given .1, c .squared .ensures, e .2, e .3) refl
+    rw (c .before .enum-told .given .1) (parts (rw (e .2, e .3) at (c .squared .ensures)) (omega arith))
 
 returns-2 : tie.Need-returns-2
 returns-2 c =
     let p = c .before .before .before .pre in
     let r = rest-back (p .0) (p .1) in
-    rw (c .before .enum-told2 .given .1, c .squared2 .ensures, r .0, r .1) refl
+    rw (c .before .enum-told2 .given .1) (parts (rw (r .0, r .1) at (c .squared2 .ensures)) (omega arith))
 
 returns-3 : tie.Need-returns-3
 returns-3 c =
     let p = c .before .before .pre in
-    rw (c .enum-told3 .given .1, square-back (p .0) (p .1), toZ-ofZ (square-fits (p .0) (p .1)), p .2) refl
+    rw (c .enum-told3 .given .1) (parts (rw (square-back (p .0) (p .1), toZ-ofZ (square-fits (p .0) (p .1))) refl) (omega (arith, p .2)))
 
 pub distance-from-spec : {M : Type 1} → statement M
 distance-from-spec =
