@@ -57,7 +57,7 @@ module _ {M : ℕ → ℕ → ℕ} {U L P N C : ℕ} (f : Frame M U L P N C) whe
     lies-beginning = attained-closest M U 1 1 0 (omega arith) behind (omega (arith, at-begin))
 
     pub exact-beginning : Exact M (record { top = U; bottom = 1 })
-    exact-beginning = record { whole = omega arith; least = behind; s = 0; r = 1; along = omega arith; some = omega arith; attained = omega (arith, at-begin) }
+    exact-beginning = record { divides = omega arith; least = behind; s = 0; r = 1; along = omega arith; whole = omega arith; attained = omega (arith, at-begin) }
 
   -- past b: |v|² ≤ u·v; |q − b|² is M 1 1
   module _ (g : N < P) (h : N + L ≤ P) where
@@ -74,7 +74,7 @@ module _ {M : ℕ → ℕ → ℕ} {U L P N C : ℕ} (f : Frame M U L P N C) whe
     )
 
     pub exact-end : Exact M (record { top = M 1 1; bottom = 1 })
-    exact-end = record { whole = omega arith; least = past; s = 1; r = 1; along = omega arith; some = omega arith; attained = omega arith }
+    exact-end = record { divides = omega arith; least = past; s = 1; r = 1; along = omega arith; whole = omega arith; attained = omega arith }
 
   -- abreast: 0 < u·v < |v|²; the foot is the point d / L
   module _ (h : N < P) (k : P < N + L) where
@@ -112,4 +112,4 @@ module _ {M : ℕ → ℕ → ℕ} {U L P N C : ℕ} (f : Frame M U L P N C) whe
     )
 
     pub exact-between : Exact M (record { top = C; bottom = L })
-    exact-between = record { whole = omega arith; least = abreast; s = d; r = L; along = omega (arith, whole-P); some = omega arith; attained = attained }
+    exact-between = record { divides = omega arith; least = abreast; s = d; r = L; along = omega (arith, whole-P); whole = omega arith; attained = attained }

@@ -36,8 +36,8 @@ module _ (M : ℕ → ℕ → ℕ) where
   -- any two squared distances are the same fraction
   no-more : (d f : Fraction) → Exact M d → Exact M f → d .top * f .bottom ≤ f .top * d .bottom
   no-more d f x y =
-      cancel (y .r * y .r) _ _ (mul-le-mul (y .some) (y .some))
-      (omega (arith, mul-le-mul-left (f .bottom) (x .least (y .r) (y .s) (y .along) (y .some)), ap (λ (t : ℕ). d .bottom * t) (y .attained)))
+      cancel (y .r * y .r) _ _ (mul-le-mul (y .whole) (y .whole))
+      (omega (arith, mul-le-mul-left (f .bottom) (x .least (y .r) (y .s) (y .along) (y .whole)), ap (λ (t : ℕ). d .bottom * t) (y .attained)))
 
   pub exact-one : (d f : Fraction) → Exact M d → Exact M f → d .top * f .bottom ≡ f .top * d .bottom
   exact-one d f x y = le-antisymm (no-more d f x y) (no-more f d y x)
@@ -50,7 +50,7 @@ module _ (M : ℕ → ℕ → ℕ) where
         s = x .s;
         r = x .r;
         along = x .along;
-        whole = x .some;
-        within = cancel (d .bottom) _ _ (x .whole) (omega (arith, x .attained, mul-le-mul-left (x .r * x .r) h));
+        whole = x .whole;
+        within = cancel (d .bottom) _ _ (x .divides) (omega (arith, x .attained, mul-le-mul-left (x .r * x .r) h));
       })
       (λ c. cancel (c .r * c .r) _ _ (mul-le-mul (c .whole) (c .whole)) (omega (arith, x .least (c .r) (c .s) (c .along) (c .whole), mul-le-mul-left (d .bottom) (c .within))))

@@ -106,7 +106,7 @@ pub permits-told : (xs : Samples) (i j e : ℕ) → Decides (Permitted xs i j e)
 unfolding permits
 permits-told xs i j e = says-decides xs i j e (judged xs i j e) (judged-told xs i j e)
 
--- the same, of a stretch whose coordinates are in range
+-- the same, as it is asked for above: of a stretch in range, which it does not need
 pub judged-says : (xs : Samples) (i j e : ℕ) → Ranged xs (j + 1) → i < j → Says xs i j e (judged xs i j e)
 judged-says xs i j e h o = judged-told xs i j e
 

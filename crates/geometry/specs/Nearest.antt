@@ -1,13 +1,13 @@
--- The three cases of the distance test: where on a segment the point nearest to a sample lies, and how far away it is. The segment leads from a to b; by the ways
--- v = b - a, which is (dx, dy), and u = q - a, which is (px, py), to the sample q:
+-- The three cases of the distance test: where on the segment from a to b the point nearest to a sample q lies, and how far away it is. The way to the segment's end is
+-- v = b - a = (dx, dy), that to the sample u = q - a = (px, py).
 --
---        q                       q                         q
---         \                      |                        /
---          a-------b        a----+----b          a-------b
+--      q                         q                          q
+--       \                        |                         /
+--        a---------b        a----+----b          a---------b
 --
---        Beginning            Between                  End
---         u·v ≤ 0         0 < u·v < |v|²           |v|² ≤ u·v
---        |u|² / 1         (u × v)² / |v|²         |u - v|² / 1
+--       Beginning             Between                   End             where the nearest point lies
+--        u·v ≤ 0          0 < u·v < |v|²            |v|² ≤ u·v          when
+--       |u|² / 1         (u × v)² / |v|²           |u - v|² / 1         its squared distance from q, top / bottom
 --
 -- Assumes nothing.
 use mathlib.Core.Path.{_≡_}
@@ -43,15 +43,17 @@ distanceFrom Between dx dy px py = record { top = sq (cross dx dy px py); bottom
 abbrev pub distance : ℤ → ℤ → ℤ → ℤ → Fraction
 distance dx dy px py = distanceFrom (nearest dx dy px py) dx dy px py
 
--- What they mean, of M r s, which is r² times the squared distance of the sample from the point s / r of the way along (`offsetBy`). No point is nearer than top / bottom:
+-- What they mean. M r s is r² times the squared distance of the sample from the point s / r of the way along the segment, as `offset` is.
+
+-- no point is nearer than top / bottom
 abbrev pub NoneNearer : (ℕ → ℕ → ℕ) → ℕ → ℕ → Type 0
 NoneNearer M top bottom = (r s : ℕ) → s ≤ r → 1 ≤ r → top * (r * r) ≤ M r s * bottom
 
--- than the point s / r
+-- none is nearer than the point s / r
 abbrev pub Closest : (ℕ → ℕ → ℕ) → ℕ → ℕ → Type 0
 Closest M r s = NoneNearer M (M r s) (r * r)
 
--- a point that is neither end
+-- a nearest point that is neither end
 pub record Inside (M : ℕ → ℕ → ℕ) : Type 0 where
   pub s : ℕ
   pub r : ℕ
@@ -67,10 +69,10 @@ Lies M Between = (Closest M 1 0 → ⊥) × (Closest M 1 1 → ⊥) × Inside M
 
 -- the squared distance from the segment is top / bottom: no point is nearer, and of one it is that
 pub record Exact (M : ℕ → ℕ → ℕ) (d : Fraction) : Type 0 where
-  pub whole : 1 ≤ d .bottom
+  pub divides : 1 ≤ d .bottom
   pub least : NoneNearer M (d .top) (d .bottom)
   pub s : ℕ
   pub r : ℕ
   pub along : s ≤ r
-  pub some : 1 ≤ r
+  pub whole : 1 ≤ r
   pub attained : M r s * d .bottom ≡ d .top * (r * r)
