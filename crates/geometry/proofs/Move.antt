@@ -1,4 +1,4 @@
--- A coordinate fits the numbers that hold it. Assumes nothing.
+-- A coordinate keeps its value when it is moved between widths: it fits 16 bits and 64. Assumes nothing.
 use Prim.Native.Nat.{_<_}
 use native.Mathlib.Omega.{arith}
 use lib.IntN.{ℤ, pos, negsuc}
