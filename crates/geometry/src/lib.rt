@@ -100,7 +100,7 @@ struct Fraction {
     bottom: u64,
 }
 
-// The squared distance of a sample from the point nearest to it, in each case; the way (dx, dy) leads to the segment's end, length is its square, and (px, py) to the sample.
+// The squared distance of a sample from the nearest point, by where that lies. (dx, dy) is the way from the segment's beginning to its end, length its square, (px, py) the way to the sample.
 fn distance_from(at: Nearest, dx: i64, dy: i64, length: u64, px: i64, py: i64) -> Fraction
     requires { ⌜ (Way dx dy) × (Way px py) × (length ≡ sq dx + sq dy) ⌝ }
     ensures { λ r. ⌜ r ≡ distanceFrom at dx dy px py ⌝ }
