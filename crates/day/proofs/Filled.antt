@@ -21,11 +21,11 @@ use Rattle.record.proofs.Marks.{mark-small}
 use Rattle.trace.specs.declared.Trace.{Trace}
 use Rattle.trace.specs.declared.Started.{Started}
 use Rattle.trace.specs.declared.Changed.{Changed}
-use Rattle.trace.specs.Numbers.{Sized, Tolerances, TraceNumber}
-use Rattle.trace.specs.Calls.{StartGives, PutGives, buffers}
-use Rattle.trace.specs.Rows.{tolerancesOk, toleranceOk}
+use Rattle.checks.specs.Numbers.{Sized, Tolerances, TraceNumber}
+use Rattle.trace.specs.Calls.{sizes, StartGives, PutGives, buffers}
+use Rattle.checks.specs.Rows.{tolerancesOk, toleranceOk}
 use Rattle.trace.proofs.Calls.{done-refused}
-use Rattle.trace.proofs.Decided.{tolerances-decided}
+use Rattle.checks.proofs.Decided.{tolerances-decided}
 use Rattle.trace.proofs.Formulas.{put-adds}
 use Rattle.history.specs.Run.{State, Call}
 use Rattle.history.specs.Run.Call.{put}
@@ -48,7 +48,7 @@ pub started : {r : Started} → StartGives 3 104 tolerances r → r .trace ≡ d
 started {r} G = G .done (code-one (r .outcome) Done (first-passed (λ n. n rising) (first-passed (λ n. n sized) (G .number))))
 
 -- of the numbers 1 to 5 none is given, where the buffers are lent and 5 is not possible
-pub past-trace : (c : Call) (n : ℕ) {Lent Stored R : Type 0} {k : ℕ} → n ≤ 104 → Lent → Possible c k → TraceNumber (dayTrace n) Lent Stored (λ j. R) k → R
+pub past-trace : (c : Call) (n : ℕ) {Lent Stored R : Type 0} {k : ℕ} → n ≤ 104 → Lent → Possible c k → TraceNumber (sizes (dayTrace n)) Lent Stored (λ j. R) k → R
 past-trace c n room lent p F =
     ⊎-elim (λ a. absurd (true≢false (subst (Possible c) (a .1) p))) (λ a. a .1)
     (first-passed (λ m. omega arith) (first-passed (λ m. m lent) (first-passed (λ m. m rising) (first-passed (λ m. m sized) F))))

@@ -26,11 +26,11 @@ use Rattle.trace.specs.declared.Trace.{Trace}
 use Rattle.trace.specs.declared.Changed.{Changed}
 use Rattle.trace.specs.declared.Uploaded.{Uploaded}
 use Rattle.trace.specs.declared.Levels.{Levels}
-use Rattle.trace.specs.Numbers.{TraceNumber, StoredSamples, StoredCells}
-use Rattle.trace.specs.Calls.{Buffers, PutGives}
+use Rattle.checks.specs.Numbers.{TraceNumber, StoredSamples, StoredCells}
+use Rattle.trace.specs.Calls.{sizes, Buffers, PutGives}
 use Rattle.trace.specs.Upload.{stopped, Puts}
 use Rattle.trace.specs.Upload.Puts.{all-taken, one-refused, one-taken}
-use Rattle.trace.proofs.Passed.{read-passed}
+use Rattle.checks.proofs.Passed.{read-passed}
 use Rattle.trace.proofs.Exactly.{upload-rows}
 use Rattle.history.specs.Run.{State, Call, Answer, Step, answered}
 use Rattle.history.specs.Run.Call.{put, upload, read}
@@ -44,7 +44,7 @@ sound-shown {s} {e} {r} S (reads G t) h =
     let d : r .outcome ≡ Done = code-one (r .outcome) Done h in
     let a = s .trace in
     let b = s .lent in
-    let p = read-passed a (b .samples) (b .table) (s .ranks) (rw d at (G .number)) in
+    let p = read-passed (sizes a) (b .samples) (b .table) (s .ranks) (rw d at (G .number)) in
     let W = G .done d in
     let B = ranks-read (b .table) (a .capacity) (a .levels) (a .held) (p .0 .sized .0) (S .few) (omega arith) (omega arith) (p .1 .cells) (s .ranks) (e .ranks) (r .segments) (r .total) W in
     subst (λ (u : State). Shown u r) (sym (state-is t (G .lent) refl)) (record {
@@ -65,7 +65,7 @@ family-keeps s L F q h m = marked-held (s .lent .samples) (s .trace .tolerances)
 pub sound-marked : {s e : State} {r : Levels} → Sound s → Step s e read (levels r) → answered (levels r) ≡ 0 → MarksRanked e
 sound-marked {s} {e} {r} S (reads G t) h q o m =
     let d : r .outcome ≡ Done = code-one (r .outcome) Done h in
-    let p = read-passed (s .trace) (s .lent .samples) (s .lent .table) (s .ranks) (rw d at (G .number)) in
+    let p = read-passed (sizes (s .trace)) (s .lent .samples) (s .lent .table) (s .ranks) (rw d at (G .number)) in
     let k : e .trace ≡ s .trace = t in
     let one : 1 ≤ e .trace .levels = rw k (p .0 .sized .0) in
     let most : rank (e .ranks) q ≤ e .trace .levels = rw k (G .done d .best .highest q (rw k at o)) in
@@ -75,10 +75,10 @@ sound-marked {s} {e} {r} S (reads G t) h q o m =
 -- ---- numbers
 module _ (s : State) (S : Sound s) where
   -- check 5 holds
-  stored-samples : StoredSamples (s .trace) (s .lent .samples)
+  stored-samples : StoredSamples (sizes (s .trace)) (s .lent .samples)
   stored-samples q h = (S .ranged .across .each q h, S .ranged .upward .each q h, S .marks q h)
 
-  stored-cells : StoredCells (s .trace) (s .lent .table)
+  stored-cells : StoredCells (sizes (s .trace)) (s .lent .table)
   stored-cells =
       let a = s .trace in
       let b = s .lent in
@@ -88,7 +88,7 @@ module _ (s : State) (S : Sound s) where
       (genuine-is (b .samples) (a .tolerances) (a .levels) (a .held) (S .ranged) (S .few) n (cell (b .table) (a .capacity)) .1 (S .costs))
 
   -- so that of the numbers 1 to 5 only 1 and 3 are left: after a refused start the number is 1, after another it is 3 or a later one
-  trace-has : {Lent Stored R : Type 0} {k : ℕ} (Q : ℕ → Type 0) → Q 1 → Q 3 → (R → Q k) → Stored → TraceNumber (s .trace) Lent Stored (λ j. R) k → Q k
+  trace-has : {Lent Stored R : Type 0} {k : ℕ} (Q : ℕ → Type 0) → Q 1 → Q 3 → (R → Q k) → Stored → TraceNumber (sizes (s .trace)) Lent Stored (λ j. R) k → Q k
   trace-has Q one three more stored F =
       ⊎-elim
       (λ z. subst Q (sym (first-taken (λ q. omega arith) F)) one)

@@ -18,12 +18,12 @@ use Rattle.costs.proofs.Meaning.{put-costs}
 use Rattle.trace.specs.declared.Trace.{Trace}
 use Rattle.trace.specs.declared.Changed.{Changed}
 use Rattle.trace.specs.declared.Uploaded.{Uploaded}
-use Rattle.trace.specs.Numbers.{Sized, Tolerances, PutNumber}
-use Rattle.trace.specs.Calls.{Buffers, heldWith, Put, NotPut, PutGives, kept}
+use Rattle.checks.specs.Numbers.{Sized, Tolerances, PutNumber}
+use Rattle.trace.specs.Calls.{sizes, Buffers, heldWith, Put, NotPut, PutGives, kept}
 use Rattle.trace.specs.Upload.{zipped, notUploaded, Puts, UploadGives}
 use Rattle.trace.specs.Upload.Puts.{all-taken, one-refused, one-taken}
-use Rattle.trace.proofs.Decided.{lists-decided}
-use Rattle.trace.proofs.Passed.{start-passed, put-passed}
+use Rattle.checks.proofs.Decided.{lists-decided}
+use Rattle.checks.proofs.Passed.{start-passed, put-passed}
 use Rattle.trace.proofs.Held.{held-others}
 use Rattle.trace.proofs.Calls.{put-able, put-rewritten, put-keeps, buffers-is}
 use Rattle.history.specs.Run.{State, Call, Answer, Step}
@@ -91,12 +91,12 @@ started-sound {s} (starts {m = m} {N = N} {tols = tols} {r = r} G t l k) =
     (λ w h. subst Sound (sym (state-is (t ∙ G .refused w h) l k)) (empty-sound 0 0 (replicate 16 0) (s .lent) (s .ranks) zero-le zero-le (inl refl)))
 
 -- ---- put
-put-sound : (s e : State) (v : ℕ) (x : Sample) (r : Changed) → Sound s → PutNumber (s .trace) (s .lent .samples) (s .lent .table) v x 0
+put-sound : (s e : State) (v : ℕ) (x : Sample) (r : Changed) → Sound s → PutNumber (sizes (s .trace)) (s .lent .samples) (s .lent .table) v x 0
     → Put (s .trace) (s .lent) v (heldWith (s .trace .held) v) x r (e .lent) → e .trace ≡ r .trace → Sound e
 put-sound s e v x r S h P t =
     let a = s .trace in
     let b = s .lent in
-    let p = put-passed a (b .samples) (b .table) v x h in
+    let p = put-passed (sizes a) (b .samples) (b .table) v x h in
     let A = put-able a b v x h in
     let R = A .ready in
     let z = R .sizes in

@@ -16,7 +16,8 @@ use Rattle.trace.specs.declared.Changed.{Changed}
 use Rattle.trace.specs.declared.Uploaded.{Uploaded}
 use Rattle.trace.specs.declared.Levels.{Levels}
 use Rattle.trace.specs.Calls.{heldWith, holding, noTrace}
-use Rattle.trace.specs.Upload.{OneLength, firsts}
+use Rattle.checks.specs.Numbers.{OneLength}
+use Rattle.trace.specs.Upload.{firsts}
 use Rattle.history.specs.Run.{State, Call, Answer, Step, Run, answered}
 use Rattle.history.specs.Run.Call.{start, put, upload, ask, read}
 use Rattle.history.specs.Run.Answer.{started, changed, uploaded, said, levels}

@@ -17,11 +17,12 @@ use Rattle.trace.specs.declared.Trace.{Trace}
 use Rattle.trace.specs.declared.Stop.{Stop}
 use Rattle.trace.specs.declared.Stop.the-variants as Stop
 use Rattle.trace.specs.declared.Uploaded.{Uploaded}
-use Rattle.trace.specs.Calls.{Buffers, Put, holding}
-use Rattle.trace.specs.Upload.{uploaded, OneLength, firsts, zipped, Puts, UploadGives}
+use Rattle.trace.specs.Calls.{sizes, Buffers, Put, holding}
+use Rattle.checks.specs.Numbers.{OneLength}
+use Rattle.trace.specs.Upload.{uploaded, firsts, zipped, Puts, UploadGives}
 use Rattle.trace.specs.Upload.Puts.{all-taken, one-refused, one-taken}
-use Rattle.trace.proofs.Decided.{lists-decided}
-use Rattle.trace.proofs.Passed.{put-passed}
+use Rattle.checks.proofs.Decided.{lists-decided}
+use Rattle.checks.proofs.Passed.{put-passed}
 use Rattle.trace.proofs.Formulas.{put-adds, added-cells}
 use Rattle.trace.proofs.Upload.{noSample}
 
@@ -69,7 +70,7 @@ puts-leave {a} {b} {e} (one-taken {c = c} {x = x} {xs = xs} {r = r} {q = q} G h 
   where
     added : Leaves (holding a (a .held + 1)) c xs q e → Put a b (a .held) (a .held + 1) x r c → (p : ℕ) → p < suc (q .added) → sampleAt (e .samples) (a .held + p) ≡ getD (x ∷ xs) p noSample
     added L A zero l =
-        let s = put-passed a (b .samples) (b .table) (a .held) x (rw h at (G .number)) in
+        let s = put-passed (sizes a) (b .samples) (b .table) (a .held) x (rw h at (G .number)) in
         let k = s .0 .lent in
         rw (add-zero (a .held)) (L .kept (a .held) (inl (omega arith)) ∙ rw (A .samples) (store-at (b .samples) (a .held) x (omega (arith, k .0, s .4), omega (arith, k .1, s .4), omega (arith, k .2, s .4))))
     added L A (suc p) l = rw (let s : a .held + suc p ≡ a .held + 1 + p = omega arith in s) (L .added p (omega arith))

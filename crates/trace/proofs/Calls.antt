@@ -19,11 +19,13 @@ use Rattle.costs.specs.Walk.{perm, Rewritten}
 use Rattle.costs.proofs.Exit.{held-end, put-checked}
 use Rattle.trace.specs.declared.Trace.{Trace}
 use Rattle.trace.specs.declared.Changed.{Changed}
-use Rattle.trace.specs.Numbers.{PutNumber}
-use Rattle.trace.specs.Calls.{Buffers, buffers, heldWith, Put, PutGives}
-use Rattle.trace.specs.Rows.{Passed, PassedTable, Ready, Changes}
+use Rattle.checks.specs.Numbers.{PutNumber}
+use Rattle.trace.specs.Calls.{sizes, Buffers, buffers, heldWith, Put, PutGives}
+use Rattle.checks.specs.Rows.{Passed, PassedTable}
+use Rattle.trace.specs.Change.{Ready, Changes}
 use Rattle.trace.proofs.Held.{held-others}
-use Rattle.trace.proofs.Passed.{put-passed, put-ready, set-each}
+use Rattle.checks.proofs.Passed.{put-passed}
+use Rattle.trace.proofs.Ready.{put-ready, set-each}
 use Rattle.costs.proofs.Meaning.{rewritten-cells, cells-rewritten}
 
 -- no call is both carried out and refused
@@ -43,9 +45,9 @@ pub record Able (a : Trace) (b : Buffers) (v n : ℕ) (x : Sample) : Type 0 wher
   pub ready : Ready a (b .samples) (b .table) v n x
   pub fine : (k i j : ℕ) → 1 ≤ k → k ≤ a .levels → i < j → j < n → Without v i j → Fine k i j (cell (b .table) (a .capacity) k i j)
 
-pub put-able : (a : Trace) (b : Buffers) (v : ℕ) (x : Sample) → PutNumber a (b .samples) (b .table) v x 0 → Able a b v (heldWith (a .held) v) x
+pub put-able : (a : Trace) (b : Buffers) (v : ℕ) (x : Sample) → PutNumber (sizes a) (b .samples) (b .table) v x 0 → Able a b v (heldWith (a .held) v) x
 put-able a b v x h =
-    let p = put-passed a (b .samples) (b .table) v x h in
+    let p = put-passed (sizes a) (b .samples) (b .table) v x h in
     record {
       ready = put-ready a (b .samples) (b .table) v x h;
       fine = λ k i j l m o d w. p .1 .cells k i j l m o (held-end (held-others (a .held) v (p .3)) i j o d w);
@@ -53,7 +55,7 @@ put-able a b v x h =
 
 module _ {a : Trace} {b : Buffers} {v : ℕ} {x : Sample} where
   -- the checks refuse, and nothing is written
-  pub refused-gives : {o : Outcome} {why : Refusal} → PutNumber a (b .samples) (b .table) v x (code o) → o ≡ Refused why
+  pub refused-gives : {o : Outcome} {why : Refusal} → PutNumber (sizes a) (b .samples) (b .table) v x (code o) → o ≡ Refused why
       → PutGives a b v x (record { outcome = o; trace = a; cells = 0 }) b
   refused-gives h g = record {
     number = h;
@@ -62,7 +64,7 @@ module _ {a : Trace} {b : Buffers} {v : ℕ} {x : Sample} where
   }
 
   -- the sample is put
-  pub changed-gives : {r : Changed} {e : Buffers} → PutNumber a (b .samples) (b .table) v x 0
+  pub changed-gives : {r : Changed} {e : Buffers} → PutNumber (sizes a) (b .samples) (b .table) v x 0
       → Changes a (b .samples) (b .table) v (heldWith (a .held) v) x r (e .samples) (e .table) → PutGives a b v x r e
   changed-gives {r} {e} h C =
       let A = put-able a b v x h in
@@ -86,11 +88,11 @@ put-rewritten {a} {b} {e} {v} {n} {x} A P =
     (e .table) (rw (P .samples) at (P .cells))
 
 -- a sample put leaves what checks 1 to 5 pass
-pub put-keeps : {a : Trace} {b e : Buffers} {v : ℕ} {x : Sample} {r : Changed} → PutNumber a (b .samples) (b .table) v x 0 → Put a b v (heldWith (a .held) v) x r e
-    → Passed (r .trace) (e .samples) × PassedTable (r .trace) (e .table)
+pub put-keeps : {a : Trace} {b e : Buffers} {v : ℕ} {x : Sample} {r : Changed} → PutNumber (sizes a) (b .samples) (b .table) v x 0 → Put a b v (heldWith (a .held) v) x r e
+    → Passed (sizes (r .trace)) (e .samples) × PassedTable (sizes (r .trace)) (e .table)
 put-keeps {a} {b} {e} {v} {x} h P =
     let s = b .samples in
-    let p = put-passed a s (b .table) v x h in
+    let p = put-passed (sizes a) s (b .table) v x h in
     let A = put-able a b v x h in
     let z = A .ready .sizes in
     let others = held-others (a .held) v (p .3) in

@@ -29,14 +29,15 @@ use Rattle.trace.specs.declared.Uploaded.{Uploaded}
 use Rattle.trace.specs.declared.Asked.{Asked}
 use Rattle.trace.specs.declared.Asked.the-variants as Asked
 use Rattle.trace.specs.declared.Levels.{Levels}
-use Rattle.trace.specs.Numbers.{StartNumber, PutNumber, AskNumber, ReadNumber}
-use Rattle.trace.specs.Calls.{emptyTrace, noTrace, StartGives, Buffers, buffers, heldWith, holding, PutGives, AskGives, ReadGives}
+use Rattle.checks.specs.Numbers.{StartNumber, PutNumber, AskNumber, ReadNumber}
+use Rattle.trace.specs.Calls.{sizes, emptyTrace, noTrace, StartGives, Buffers, buffers, heldWith, holding, PutGives, AskGives, ReadGives}
 use Rattle.trace.specs.Upload.{uploaded, zipped, Puts, notUploaded, UploadGives}
 use Rattle.trace.specs.Upload.Puts.{all-taken, one-refused, one-taken}
-use Rattle.trace.specs.Rows.{setupOutcome, putOutcome, askOutcome, readOutcome}
-use Rattle.trace.proofs.Decided.{lists-decided}
-use Rattle.trace.proofs.Numbers.{start-number, put-number, ask-number, read-number}
-use Rattle.trace.proofs.Passed.{put-ready, ask-passed, read-passed, in-range}
+use Rattle.checks.specs.Rows.{setupOutcome, putOutcome, askOutcome, readOutcome}
+use Rattle.checks.proofs.Decided.{lists-decided}
+use Rattle.checks.proofs.Numbers.{start-number, put-number, ask-number, read-number}
+use Rattle.checks.proofs.Passed.{ask-passed, read-passed, in-range}
+use Rattle.trace.proofs.Ready.{put-ready}
 use Rattle.trace.proofs.Calls.{done-refused, refused-gives, changed-gives}
 
 -- ---- start
@@ -49,9 +50,9 @@ start-some m N tols = by (setupOutcome m N tols) (start-number m N tols)
 
 -- ---- put: the outcome that the row of tests gives, and where it is Done the table after the call
 pub put-some : (a : Trace) (b : Buffers) (v : ℕ) (x : Sample) → (r : Changed) × (e : Buffers) × PutGives a b v x r e
-put-some a b v x = by (putOutcome a (b .samples) (b .table) v x) (put-number a (b .samples) (b .table) v x)
+put-some a b v x = by (putOutcome (sizes a) (b .samples) (b .table) v x) (put-number (sizes a) (b .samples) (b .table) v x)
   where
-    by : (o : Outcome) → PutNumber a (b .samples) (b .table) v x (code o) → (r : Changed) × (e : Buffers) × PutGives a b v x r e
+    by : (o : Outcome) → PutNumber (sizes a) (b .samples) (b .table) v x (code o) → (r : Changed) × (e : Buffers) × PutGives a b v x r e
     by (Refused why) h = (record { outcome = Refused why; trace = a; cells = 0 }, b, refused-gives h refl)
     by Done h =
         let R = put-ready a (b .samples) (b .table) v x h in
@@ -80,23 +81,23 @@ upload-some a b us = elim (decided _ (lists-decided us)) [
 
 -- ---- ask
 pub ask-some : (a : Trace) (xs : Samples) (k i j : ℕ) → (r : Asked) × AskGives a xs k i j r xs
-ask-some a xs k i j = by (askOutcome a xs k i j) (ask-number a xs k i j)
+ask-some a xs k i j = by (askOutcome (sizes a) xs k i j) (ask-number (sizes a) xs k i j)
   where
-    said : AskNumber a xs k i j 0 → (v : Verdict) → Says xs i j (getD (a .tolerances) (k - 1) 0) v → (r : Asked) × AskGives a xs k i j r xs
+    said : AskNumber (sizes a) xs k i j 0 → (v : Verdict) → Says xs i j (getD (a .tolerances) (k - 1) 0) v → (r : Asked) × AskGives a xs k i j r xs
     said h Verdict.Yes s = (Asked.Yes, record { number = h; says = s; lent = refl })
     said h (Verdict.No q) s = (Asked.No q, record { number = h; says = s; lent = refl })
 
-    by : (o : Outcome) → AskNumber a xs k i j (code o) → (r : Asked) × AskGives a xs k i j r xs
+    by : (o : Outcome) → AskNumber (sizes a) xs k i j (code o) → (r : Asked) × AskGives a xs k i j r xs
     by (Refused why) h = (Asked.Refused why, record { number = h; says = tt; lent = refl })
     by Done h =
-        let p = ask-passed a xs k i j h in
+        let p = ask-passed (sizes a) xs k i j h in
         said h (judged xs i j (getD (a .tolerances) (k - 1) 0)) (judged-says xs i j (getD (a .tolerances) (k - 1) 0) (fewer-ranged (omega arith) (in-range (p .0))) (p .1))
 
 -- ---- read
 pub read-some : (a : Trace) (b : Buffers) (ranks : List ℕ) → (r : Levels) × (bytes : List ℕ) × ReadGives a b ranks r b bytes
-read-some a b ranks = by (readOutcome a (b .samples) (b .table) (length ranks)) (read-number a (b .samples) (b .table) ranks)
+read-some a b ranks = by (readOutcome (sizes a) (b .samples) (b .table) (length ranks)) (read-number (sizes a) (b .samples) (b .table) ranks)
   where
-    gives : ReadNumber a (b .samples) (b .table) ranks 0 → (e per : List ℕ) (sum : ℕ) → RanksRead (b .table) (a .capacity) (a .levels) (a .held) ranks e per sum
+    gives : ReadNumber (sizes a) (b .samples) (b .table) ranks 0 → (e per : List ℕ) (sum : ℕ) → RanksRead (b .table) (a .capacity) (a .levels) (a .held) ranks e per sum
         → (r : Levels) × (bytes : List ℕ) × ReadGives a b ranks r b bytes
     gives h e per sum R = (
       record { outcome = Done; segments = per; total = sum },
@@ -104,14 +105,14 @@ read-some a b ranks = by (readOutcome a (b .samples) (b .table) (length ranks)) 
       record { number = h; done = λ d. R; refused = λ w g. done-refused refl g; lent = refl },
     )
 
-    by : (o : Outcome) → ReadNumber a (b .samples) (b .table) ranks (code o) → (r : Levels) × (bytes : List ℕ) × ReadGives a b ranks r b bytes
+    by : (o : Outcome) → ReadNumber (sizes a) (b .samples) (b .table) ranks (code o) → (r : Levels) × (bytes : List ℕ) × ReadGives a b ranks r b bytes
     by (Refused why) h = (
       record { outcome = Refused why; segments = replicate 16 0; total = 0 },
       ranks,
       record { number = h; done = λ d. done-refused d refl; refused = λ w g. record { kept = refl; segments = refl; total = refl }; lent = refl },
     )
     by Done h =
-        let p = read-passed a (b .samples) (b .table) ranks h in
+        let p = read-passed (sizes a) (b .samples) (b .table) ranks h in
         let z = p .0 .sized in
         let n = p .0 .held in
         let w = ranks-some (b .table) (a .capacity) (a .levels) (a .held) (z .0) (z .1) (omega arith) (omega arith) (p .1 .cells) ranks (p .2) in

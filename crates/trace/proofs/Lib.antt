@@ -1,8 +1,5 @@
-pub mod Decided
-pub mod Checks
 pub mod Held
-pub mod Numbers
-pub mod Passed
+pub mod Ready
 pub mod Exactly
 pub mod Calls
 pub mod Unique

@@ -23,13 +23,13 @@ use Rattle.trace.specs.declared.Uploaded.{Uploaded}
 use Rattle.trace.specs.declared.Asked.{Asked}
 use Rattle.trace.specs.declared.Asked.the-variants as Asked
 use Rattle.trace.specs.declared.Levels.{Levels}
-use Rattle.trace.specs.Numbers.{StartNumber, PutNumber, ReadNumber}
-use Rattle.trace.specs.Calls.{StartGives, Buffers, Put, PutGives, asked, Says, AskGives, ReadGives}
+use Rattle.checks.specs.Numbers.{StartNumber, PutNumber, ReadNumber}
+use Rattle.trace.specs.Calls.{sizes, StartGives, Buffers, Put, PutGives, asked, Says, AskGives, ReadGives}
 use Rattle.trace.specs.Upload.{Puts, UploadGives}
 use Rattle.trace.specs.Upload.Puts.{all-taken, one-refused, one-taken}
-use Rattle.trace.proofs.Decided.{lists-decided}
-use Rattle.trace.proofs.Numbers.{start-number-one, put-number-one, ask-number-one, read-number-one}
-use Rattle.trace.proofs.Passed.{read-passed}
+use Rattle.checks.proofs.Decided.{lists-decided}
+use Rattle.checks.proofs.Numbers.{start-number-one, put-number-one, ask-number-one, read-number-one}
+use Rattle.checks.proofs.Passed.{read-passed}
 use Rattle.costs.proofs.Exit.{rewritten-unique}
 use Rattle.readout.proofs.Meaning.{ranks-one}
 use Rattle.trace.proofs.Calls.{done-refused, refused-one, Able, put-able, put-rewritten, buffers-is}
@@ -64,7 +64,7 @@ table-one a b v n x A P Q = let z = A .ready .sizes in rewritten-unique (a .capa
 
 pub put-one : (a : Trace) (b : Buffers) (v : ℕ) (x : Sample) (r q : Changed) (e f : Buffers) → PutGives a b v x r e → PutGives a b v x q f → (r ≡ q) × (e ≡ f)
 put-one a b v x r q e f A B =
-    by-number (PutNumber a (b .samples) (b .table) v x) (put-number-one a (b .samples) (b .table) v x) (r .outcome) (q .outcome) (A .number) (B .number) done refused
+    by-number (PutNumber (sizes a) (b .samples) (b .table) v x) (put-number-one (sizes a) (b .samples) (b .table) v x) (r .outcome) (q .outcome) (A .number) (B .number) done refused
   where
     done : r .outcome ≡ q .outcome → r .outcome ≡ Done → q .outcome ≡ Done → (r ≡ q) × (e ≡ f)
     done o h g =
@@ -116,7 +116,7 @@ says-one xs i j e (Asked.Refused w) (Asked.Refused x) n A B = ap Asked.Refused (
 
 pub ask-one : (a : Trace) (xs : Samples) (k i j : ℕ) (r q : Asked) (u w : Samples) → AskGives a xs k i j r u → AskGives a xs k i j q w → (r ≡ q) × (u ≡ w)
 ask-one a xs k i j r q u w A B = (
-  says-one xs i j (getD (a .tolerances) (k - 1) 0) r q (ask-number-one a xs k i j (asked r) (asked q) (A .number) (B .number)) (A .says) (B .says),
+  says-one xs i j (getD (a .tolerances) (k - 1) 0) r q (ask-number-one (sizes a) xs k i j (asked r) (asked q) (A .number) (B .number)) (A .says) (B .says),
   A .lent ∙ sym (B .lent),
 )
 
@@ -136,11 +136,11 @@ levels-same {r} {q} e f g =
 
 pub read-one : (a : Trace) (b : Buffers) (ranks : List ℕ) (r q : Levels) (e f : Buffers) (u w : List ℕ) → ReadGives a b ranks r e u → ReadGives a b ranks q f w → (r ≡ q) × (e ≡ f) × (u ≡ w)
 read-one a b ranks r q e f u w A B =
-    by-number (ReadNumber a (b .samples) (b .table) ranks) (read-number-one a (b .samples) (b .table) ranks) (r .outcome) (q .outcome) (A .number) (B .number) done refused
+    by-number (ReadNumber (sizes a) (b .samples) (b .table) ranks) (read-number-one (sizes a) (b .samples) (b .table) ranks) (r .outcome) (q .outcome) (A .number) (B .number) done refused
   where
     done : r .outcome ≡ q .outcome → r .outcome ≡ Done → q .outcome ≡ Done → (r ≡ q) × (e ≡ f) × (u ≡ w)
     done o h g =
-        let p = read-passed a (b .samples) (b .table) ranks (rw h at (A .number)) in
+        let p = read-passed (sizes a) (b .samples) (b .table) ranks (rw h at (A .number)) in
         let z = p .0 .sized in
         let n = p .0 .held in
         let s = ranks-one (b .table) (a .capacity) (a .levels) (a .held) (z .0) (z .1) (omega arith) (omega arith) (p .1 .cells) ranks u w (r .segments) (q .segments) (r .total) (q .total)

@@ -30,15 +30,15 @@ use Rattle.trace.specs.declared.Uploaded.{Uploaded}
 use Rattle.trace.specs.declared.Asked.{Asked}
 use Rattle.trace.specs.declared.Asked.the-variants as Asked
 use Rattle.trace.specs.declared.Levels.{Levels}
-use Rattle.trace.specs.Numbers.{Tolerances, Valid, LentSamples, LentTable, StoredSamples, StoredCells, TraceNumber, PutNumber, ReadNumber}
-use Rattle.trace.specs.Calls.{Buffers, heldWith, Put, PutGives, asked, Says, AskGives, ReadGives}
+use Rattle.checks.specs.Numbers.{Tolerances, Valid, LentSamples, LentTable, StoredSamples, StoredCells, TraceNumber, PutNumber, ReadNumber}
+use Rattle.trace.specs.Calls.{sizes, Buffers, heldWith, Put, PutGives, asked, Says, AskGives, ReadGives}
 use Rattle.trace.specs.Upload.{Puts, UploadGives}
 use Rattle.trace.specs.Upload.Puts.{all-taken, one-refused, one-taken}
 use Rattle.trace.specs.Alike.{AlikeTraces, AlikePlaces, AlikeSamples, AlikeCells, AlikeBuffers, AlikeChanges, AlikeUploads}
-use Rattle.trace.proofs.Decided.{lists-decided}
-use Rattle.trace.proofs.Numbers.{put-number-one, ask-number-one, read-number-one}
+use Rattle.checks.proofs.Decided.{lists-decided}
+use Rattle.checks.proofs.Numbers.{put-number-one, ask-number-one, read-number-one}
 use Rattle.trace.proofs.Held.{held-others}
-use Rattle.trace.proofs.Passed.{put-passed, ask-passed, read-passed}
+use Rattle.checks.proofs.Passed.{put-passed, ask-passed, read-passed}
 use Rattle.trace.proofs.Calls.{done-refused, refused-one, Able, put-able, put-rewritten}
 use Rattle.trace.proofs.Unique.{by-number, says-one, levels-same}
 
@@ -77,7 +77,7 @@ tolerances-carried A T = record {
 }
 
 module _ (a : Trace) (tols : List ℕ) (agree : Agree (a .levels) (a .tolerances) tols) where
-  trace-carried : {Lent Lent′ Stored Stored′ R : Type 0} {k : ℕ} → Lent ↔ Lent′ → Stored ↔ Stored′ → TraceNumber a Lent Stored (λ j. R) k → TraceNumber (tuned a tols) Lent′ Stored′ (λ j. R) k
+  trace-carried : {Lent Lent′ Stored Stored′ R : Type 0} {k : ℕ} → Lent ↔ Lent′ → Stored ↔ Stored′ → TraceNumber (sizes a) Lent Stored (λ j. R) k → TraceNumber (sizes (tuned a tols)) Lent′ Stored′ (λ j. R) k
   trace-carried L S h =
       first-same (λ p. p, λ p. p)
       (first-unless (tolerances-carried agree, tolerances-carried (λ l o. sym (agree l o)))
@@ -85,26 +85,26 @@ module _ (a : Trace) (tols : List ℕ) (agree : Agree (a .levels) (a .tolerances
       h
 
   -- the buffers are as long
-  lent-carried : {xs us : Samples} → AlikeSamples (a .held) xs us → LentSamples a xs ↔ LentSamples a us
+  lent-carried : {xs us : Samples} → AlikeSamples (a .held) xs us → LentSamples (sizes a) xs ↔ LentSamples (sizes a) us
   lent-carried X = (λ p. rw (X .across .length, X .upward .length, X .marks .length) at p, λ p. rw (X .across .length, X .upward .length, X .marks .length) p)
 
   -- without a table
   samples-carried : {xs us : Samples} {R : Type 0} {k : ℕ} → AlikeSamples (a .held) xs us
-      → TraceNumber a (LentSamples a xs) (StoredSamples a xs) (λ j. R) k → TraceNumber (tuned a tols) (LentSamples a us) (StoredSamples a us) (λ j. R) k
+      → TraceNumber (sizes a) (LentSamples (sizes a) xs) (StoredSamples (sizes a) xs) (λ j. R) k → TraceNumber (sizes (tuned a tols)) (LentSamples (sizes a) us) (StoredSamples (sizes a) us) (λ j. R) k
   samples-carried X h = trace-carried (lent-carried X) (stored-samples X) h
 
   -- with a table, whatever else is lent
   table-carried : {b d : Buffers} {Lent Lent′ R : Type 0} {k : ℕ} → AlikeBuffers a b d → Lent ↔ Lent′
-      → TraceNumber a Lent (StoredSamples a (b .samples) × StoredCells a (b .table)) (λ j. R) k
-      → TraceNumber (tuned a tols) Lent′ (StoredSamples a (d .samples) × StoredCells a (d .table)) (λ j. R) k
+      → TraceNumber (sizes a) Lent (StoredSamples (sizes a) (b .samples) × StoredCells (sizes a) (b .table)) (λ j. R) k
+      → TraceNumber (sizes (tuned a tols)) Lent′ (StoredSamples (sizes a) (d .samples) × StoredCells (sizes a) (d .table)) (λ j. R) k
   table-carried B L h =
       let s = stored-samples (B .samples) in
       let t = stored-cells (B .table) in
       trace-carried L (λ p. (s .0 (p .0), t .0 (p .1)), λ p. (s .1 (p .0), t .1 (p .1))) h
 
   change-carried : {b d : Buffers} {R : Type 0} {k : ℕ} → AlikeBuffers a b d
-      → TraceNumber a (LentSamples a (b .samples) × LentTable a (b .table)) (StoredSamples a (b .samples) × StoredCells a (b .table)) (λ j. R) k
-      → TraceNumber (tuned a tols) (LentSamples a (d .samples) × LentTable a (d .table)) (StoredSamples a (d .samples) × StoredCells a (d .table)) (λ j. R) k
+      → TraceNumber (sizes a) (LentSamples (sizes a) (b .samples) × LentTable (sizes a) (b .table)) (StoredSamples (sizes a) (b .samples) × StoredCells (sizes a) (b .table)) (λ j. R) k
+      → TraceNumber (sizes (tuned a tols)) (LentSamples (sizes a) (d .samples) × LentTable (sizes a) (d .table)) (StoredSamples (sizes a) (d .samples) × StoredCells (sizes a) (d .table)) (λ j. R) k
   change-carried B h =
       let l = lent-carried (B .samples) in
       table-carried B (λ p. (l .0 (p .0), rw (B .table .length) at (p .1)), λ p. (l .1 (p .0), rw (B .table .length) (p .1))) h
@@ -176,12 +176,12 @@ module _ (a : Trace) (tols : List ℕ) (agree : Agree (a .levels) (a .tolerances
 
   put-tuned : (r q : Changed) (e f : Buffers) → PutGives a b v x r e → PutGives (tuned a tols) d v x q f → AlikeChanges r q e f
   put-tuned r q e f G H =
-      by-number (PutNumber (tuned a tols) (d .samples) (d .table) v x) (put-number-one (tuned a tols) (d .samples) (d .table) v x) (r .outcome) (q .outcome)
+      by-number (PutNumber (sizes (tuned a tols)) (d .samples) (d .table) v x) (put-number-one (sizes (tuned a tols)) (d .samples) (d .table) v x) (r .outcome) (q .outcome)
       (change-carried a tols agree B (G .number)) (H .number) done refused
     where
       done : r .outcome ≡ q .outcome → r .outcome ≡ Done → q .outcome ≡ Done → AlikeChanges r q e f
       done o h g =
-          let p = put-passed a (b .samples) (b .table) v x (rw h at (G .number)) in
+          let p = put-passed (sizes a) (b .samples) (b .table) v x (rw h at (G .number)) in
           changed-alike (heldWith (a .held) v) (held-others (a .held) v (p .3)) r q e f
           (put-able a b v x (rw h at (G .number))) (put-able (tuned a tols) d v x (rw g at (H .number))) (G .done h) (H .done g) o
 
@@ -245,11 +245,11 @@ ask-unread a c xs us k i j r q xs′ us′ A X G H =
     let s = c .tolerances in
     let H′ = subst (λ z. AskGives z us k i j q us′) (tuned-same A) H in
     says-one us i j (getD s (k - 1) 0) r q
-    (ask-number-one (tuned a s) us k i j (asked r) (asked q) (samples-carried a s (A .tolerances) X (G .number)) (H′ .number))
+    (ask-number-one (sizes (tuned a s)) us k i j (asked r) (asked q) (samples-carried a s (A .tolerances) X (G .number)) (H′ .number))
     (says-carried xs us i j (getD (a .tolerances) (k - 1) 0) (getD s (k - 1) 0) r same (G .says)) (H′ .says)
   where
     same : asked r ≡ 0 → (getD (a .tolerances) (k - 1) 0 ≡ getD (c .tolerances) (k - 1) 0) × Same xs us i j
-    same e = let p = ask-passed a xs k i j (rw e at (G .number)) in (A .tolerances (k - 1) (omega arith), samples-same i j (p .2) X)
+    same e = let p = ask-passed (sizes a) xs k i j (rw e at (G .number)) in (A .tolerances (k - 1) (omega arith), samples-same i j (p .2) X)
 
 -- ---- read
 module _ (a : Trace) (tols : List ℕ) (agree : Agree (a .levels) (a .tolerances) tols) (b d : Buffers) (B : AlikeBuffers a b d) (ranks bytes : List ℕ) (L : length ranks ≡ length bytes)
@@ -259,8 +259,8 @@ module _ (a : Trace) (tols : List ℕ) (agree : Agree (a .levels) (a .tolerances
 
   read-done : r .outcome ≡ q .outcome → r .outcome ≡ Done → q .outcome ≡ Done → Alike
   read-done o h g =
-      let p = read-passed a (b .samples) (b .table) ranks (rw h at (G .number)) in
-      let u = read-passed (tuned a tols) (d .samples) (d .table) bytes (rw g at (H .number)) in
+      let p = read-passed (sizes a) (b .samples) (b .table) ranks (rw h at (G .number)) in
+      let u = read-passed (sizes (tuned a tols)) (d .samples) (d .table) bytes (rw g at (H .number)) in
       let z = p .0 .sized in
       let n = p .0 .held in
       let s = read-alike (b .table) (d .table) (a .capacity) (a .levels) (a .held) (omega arith) (B .table .each) ranks bytes ranks′ bytes′ (r .segments) (q .segments) (r .total) (q .total)
@@ -277,7 +277,7 @@ module _ (a : Trace) (tols : List ℕ) (agree : Agree (a .levels) (a .tolerances
   read-tuned : Alike
   read-tuned =
       let l = lent-carried a tols agree (B .samples) in
-      by-number (ReadNumber (tuned a tols) (d .samples) (d .table) bytes) (read-number-one (tuned a tols) (d .samples) (d .table) bytes) (r .outcome) (q .outcome)
+      by-number (ReadNumber (sizes (tuned a tols)) (d .samples) (d .table) bytes) (read-number-one (sizes (tuned a tols)) (d .samples) (d .table) bytes) (r .outcome) (q .outcome)
       (table-carried a tols agree B (λ p. (l .0 (p .0), rw (B .table .length) at (p .1), rw L at (p .2)), λ p. (l .1 (p .0), rw (B .table .length) (p .1), rw L (p .2))) (G .number))
       (H .number) read-done read-refused
 

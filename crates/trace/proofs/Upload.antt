@@ -21,13 +21,14 @@ use Rattle.trace.specs.declared.Trace.{Trace}
 use Rattle.trace.specs.declared.Changed.{Changed}
 use Rattle.trace.specs.declared.Stop.the-variants as Stop
 use Rattle.trace.specs.declared.Uploaded.{Uploaded}
-use Rattle.trace.specs.Calls.{Buffers, PutGives}
-use Rattle.trace.specs.Upload.{OneLength, zipped, uploaded, Puts, UploadGives}
+use Rattle.trace.specs.Calls.{sizes, Buffers, PutGives}
+use Rattle.checks.specs.Numbers.{OneLength}
+use Rattle.trace.specs.Upload.{zipped, uploaded, Puts, UploadGives}
 use Rattle.trace.specs.Upload.Puts.{all-taken, one-refused, one-taken}
-use Rattle.trace.specs.Rows.{traceOutcome, uploadOutcome, Passed, PassedTable}
-use Rattle.trace.proofs.Decided.{lists-decided}
-use Rattle.trace.proofs.Numbers.{put-stopped}
-use Rattle.trace.proofs.Passed.{trace-passed, put-passed}
+use Rattle.checks.specs.Rows.{lengths, traceOutcome, uploadOutcome, Passed, PassedTable}
+use Rattle.checks.proofs.Decided.{lists-decided}
+use Rattle.checks.proofs.Numbers.{put-stopped}
+use Rattle.checks.proofs.Passed.{trace-passed, put-passed}
 use Rattle.trace.proofs.Calls.{done-refused, refused-one, refused-gives, put-keeps}
 use Rattle.trace.proofs.Formulas.{put-adds, added-cells}
 
@@ -52,13 +53,13 @@ zipped-at (x ∷ xs) (y ∷ ys) (m ∷ ms) (suc q) h l = zipped-at xs ys ms q (o
 -- ---- before the first sample
 module _ (a : Trace) (b : Buffers) (us : Samples) where
   abbrev before : Outcome
-  before = uploadOutcome a (b .samples) (b .table) (length (us .across)) (length (us .upward)) (length (us .marks))
+  before = uploadOutcome (sizes a) (b .samples) (b .table) (lengths us)
 
   abbrev list : List Sample
   list = zipped (us .across) (us .upward) (us .marks)
 
   abbrev row : Bool → Bool → Outcome
-  row one none = andThen (unless one Buffer) (cond none Done (traceOutcome a (b .samples) (b .table) (a .held)))
+  row one none = andThen (unless one Buffer) (cond none Done (traceOutcome (sizes a) (b .samples) (b .table)))
 
   -- refused, it writes nothing
   pub upload-stopped : {why : Refusal} → before ≡ Refused why → UploadGives a b us (uploaded (Stop.Refused why) a 0 0) b us
@@ -77,20 +78,20 @@ module _ (a : Trace) (b : Buffers) (us : Samples) where
         unequal = λ n. absurd (n (d .right refl));
         puts = λ o.
             let some : 0 < length list = omega (arith, zipped-length (us .across) (us .upward) (us .marks) o, f refl) in
-            rw (drop-cons list 0 noSample some) (one-refused (refused-gives {v = a .held} {o = Refused why} (put-stopped a (b .samples) (b .table) (a .held) (getD list 0 noSample) h) refl) refl);
+            rw (drop-cons list 0 noSample some) (one-refused (refused-gives {v = a .held} {o = Refused why} (put-stopped (sizes a) (b .samples) (b .table) (a .held) (getD list 0 noSample) h) refl) refl);
         lists = refl;
       }
 
   -- else its lists have one length, and unless they are empty checks 1 to 5 have passed
-  pub upload-ready : before ≡ Done → OneLength us × (0 < length (us .across) → Passed a (b .samples) × PassedTable a (b .table))
+  pub upload-ready : before ≡ Done → OneLength us × (0 < length (us .across) → Passed (sizes a) (b .samples) × PassedTable (sizes a) (b .table))
   unfolding uploadOutcome
   upload-ready = by _ _ (lists-decided us) (eqb-true (length (us .across)) 0)
     where
       by : (one none : Bool) → Decides (OneLength us) one → (none ≡ true → length (us .across) ≡ 0) → row one none ≡ Done
-          → OneLength us × (0 < length (us .across) → Passed a (b .samples) × PassedTable a (b .table))
+          → OneLength us × (0 < length (us .across) → Passed (sizes a) (b .samples) × PassedTable (sizes a) (b .table))
       by false none d e h = done-refused h refl
       by true true d e h = (d .right refl, λ l. absurd (omega (arith, e refl)))
-      by true false d e h = (d .right refl, λ l. trace-passed a (b .samples) (b .table) .0 h)
+      by true false d e h = (d .right refl, λ l. trace-passed (sizes a) (b .samples) (b .table) .0 h)
 
 -- ---- a put leaves every buffer as long as it was
 pub record SameRoom (b e : Buffers) : Type 0 where
@@ -125,9 +126,9 @@ pub record Underway (a : Trace) (b : Buffers) (zs : List Sample) (i cells : ℕ)
   pub within : i ≤ c .held
   pub few : cells ≤ 4096 * i
   pub room : SameRoom b d
-  pub ready : i < length zs → Passed c (d .samples) × PassedTable c (d .table)
+  pub ready : i < length zs → Passed (sizes c) (d .samples) × PassedTable (sizes c) (d .table)
 
-pub underway-none : {a : Trace} {b : Buffers} {zs : List Sample} → (0 < length zs → Passed a (b .samples) × PassedTable a (b .table)) → Underway a b zs 0 0 a b
+pub underway-none : {a : Trace} {b : Buffers} {zs : List Sample} → (0 < length zs → Passed (sizes a) (b .samples) × PassedTable (sizes a) (b .table)) → Underway a b zs 0 0 a b
 underway-none h = record {
   leads = λ q e P. rw (zero-add (q .added), zero-add (q .cells)) P;
   within = omega arith;
@@ -150,7 +151,7 @@ module _ {a c : Trace} {b d : Buffers} {zs : List Sample} {i cells : ℕ} (U : U
     module _ (h : r .outcome ≡ Done) where
       pub next-few : r .cells ≤ 4096
       next-few =
-          let p = put-passed c (d .samples) (d .table) (c .held) (getD zs i noSample) (rw h at (G .number)) in
+          let p = put-passed (sizes c) (d .samples) (d .table) (c .held) (getD zs i noSample) (rw h at (G .number)) in
           omega (arith, added-cells c d (c .held) _ r f G h refl, mul-le-mul {n₁ = c .levels} {m₁ = c .held} {n₂ = 16} {m₂ = 256} (p .0 .sized .1) (omega (arith, p .4, p .0 .sized .3)))
 
       pub underway-more : Underway a b zs (i + 1) (cells + r .cells) (r .trace) f

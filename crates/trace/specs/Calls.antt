@@ -11,6 +11,8 @@ use Rattle.refusal.specs.Number.{number, code}
 use Rattle.geometry.specs.Near.{Passable, Permitted}
 use Rattle.geometry.specs.Samples.{Sample, Samples, store}
 use Rattle.geometry.specs.Spoiler.{Spoiler}
+use Rattle.checks.specs.declared.Sizes.{Sizes}
+use Rattle.checks.specs.Numbers.{StartNumber, PutNumber, AskNumber, ReadNumber}
 use Rattle.costs.specs.Costs.{Permit, CellsWritten, named}
 use Rattle.readout.specs.Read.{RanksRead}
 use Rattle.trace.specs.declared.Trace.{Trace}
@@ -19,7 +21,10 @@ use Rattle.trace.specs.declared.Changed.{Changed}
 use Rattle.trace.specs.declared.Asked.{Asked}
 use Rattle.trace.specs.declared.Asked.the-variants as Asked
 use Rattle.trace.specs.declared.Levels.{Levels}
-use Rattle.trace.specs.Numbers.{StartNumber, PutNumber, AskNumber, ReadNumber}
+
+-- what the checks know of a trace
+abbrev pub sizes : Trace → Sizes
+sizes a = record { levels = a .levels; capacity = a .capacity; held = a .held; tolerances = a .tolerances }
 
 -- ---- start
 -- the first m tolerances, then zeros up to 16
@@ -69,7 +74,7 @@ pub record NotPut (a : Trace) (b : Buffers) (r : Changed) (e : Buffers) : Type 0
 
 -- a sample is put at place v
 pub record PutGives (a : Trace) (b : Buffers) (v : ℕ) (x : Sample) (r : Changed) (e : Buffers) : Type 0 where
-  pub number : PutNumber a (b .samples) (b .table) v x (code (r .outcome))
+  pub number : PutNumber (sizes a) (b .samples) (b .table) v x (code (r .outcome))
   pub done : r .outcome ≡ Done → Put a b v (heldWith (a .held) v) x r e
   pub refused : (why : Refusal) → r .outcome ≡ Refused why → NotPut a b r e
 
@@ -87,7 +92,7 @@ Says xs i j e (Asked.No q) = Spoiler (Passable xs i j e) i j q
 Says xs i j e (Asked.Refused why) = Unit {0}
 
 pub record AskGives (a : Trace) (xs : Samples) (k i j : ℕ) (r : Asked) (xs′ : Samples) : Type 0 where
-  pub number : AskNumber a xs k i j (asked r)
+  pub number : AskNumber (sizes a) xs k i j (asked r)
   pub says : Says xs i j (getD (a .tolerances) (k - 1) 0) r
   pub lent : xs′ ≡ xs
 
@@ -99,7 +104,7 @@ pub record NotRead (ranks : List ℕ) (r : Levels) (ranks′ : List ℕ) : Type 
   pub total : r .total ≡ 0
 
 pub record ReadGives (a : Trace) (b : Buffers) (ranks : List ℕ) (r : Levels) (e : Buffers) (ranks′ : List ℕ) : Type 0 where
-  pub number : ReadNumber a (b .samples) (b .table) ranks (code (r .outcome))
+  pub number : ReadNumber (sizes a) (b .samples) (b .table) ranks (code (r .outcome))
   pub done : r .outcome ≡ Done → RanksRead (b .table) (a .capacity) (a .levels) (a .held) ranks ranks′ (r .segments) (r .total)
   pub refused : (why : Refusal) → r .outcome ≡ Refused why → NotRead ranks r ranks′
   pub lent : e ≡ b

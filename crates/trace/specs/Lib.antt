@@ -1,5 +1,4 @@
-pub mod Numbers
 pub mod Calls
 pub mod Upload
 pub mod Alike
-pub mod Rows
+pub mod Change

@@ -9,6 +9,7 @@ use Rattle.refusal.specs.declared.Refusal.the-variants.{Buffer}
 use Rattle.refusal.specs.declared.Outcome.the-variants.{Done, Refused}
 use Rattle.refusal.specs.Number.{number}
 use Rattle.geometry.specs.Samples.{Sample, Samples, sample, samples}
+use Rattle.checks.specs.Numbers.{OneLength}
 use Rattle.trace.specs.declared.Trace.{Trace}
 use Rattle.trace.specs.declared.Changed.{Changed}
 use Rattle.trace.specs.declared.Stop.{Stop}
@@ -23,10 +24,6 @@ stopped (Stop.Refused why) = number why
 
 abbrev pub uploaded : Stop → Trace → ℕ → ℕ → Uploaded
 uploaded stop a added cells = record { stop = stop; trace = a; added = added; cells = cells }
-
--- the lists are of one length
-abbrev pub OneLength : Samples → Type 0
-OneLength us = (length (us .across) ≡ length (us .upward)) × (length (us .across) ≡ length (us .marks))
 
 -- the first q of each
 abbrev pub firsts : ℕ → Samples → Samples

@@ -8,6 +8,7 @@ use borrow.Author.Needs.{needs}
 use Rattle.geometry.specs.Samples.{samples}
 use Rattle.trace.proofs.Trace.change.Statement.{statement}
 use Rattle.trace.proofs.Trace.change.Tie as tie
+use Rattle.trace.specs.Calls.{sizes}
 
 mul-x : tie.Need-mul-x
 mul-x c = search needs

@@ -6,28 +6,32 @@ use lib.ListN.{length}
 use borrow.Author.Needs.{needs}
 use Rattle.refusal.specs.Number.{code}
 use Rattle.geometry.specs.Samples.{samples}
-use Rattle.trace.specs.Numbers.{ReadNumber}
-use Rattle.trace.proofs.Numbers.{read-number}
-use Rattle.trace.specs.Rows.{Passed, PassedTable}
-use Rattle.trace.proofs.Passed.{read-passed}
+use Rattle.checks.specs.Numbers.{ReadNumber}
+use Rattle.checks.proofs.Numbers.{read-number}
+use Rattle.checks.specs.Rows.{Passed, PassedTable}
+use Rattle.checks.proofs.Passed.{read-passed}
 use Rattle.readout.proofs.Meaning.{read-ranks}
 use Rattle.trace.proofs.Calls.{done-refused}
 use Rattle.trace.proofs.Trace.read.Statement.{statement}
 use Rattle.trace.proofs.Trace.read.Tie as tie
+use Rattle.trace.specs.Calls.{sizes}
 
 -- the number that the checks gave
 number : (c : tie.After-read-outcome) →
-    let a = c .before .before .before .before .args in
-    ReadNumber (a .self) (samples (a .xs .now) (a .ys .now) (a .marks .now)) (a .table .now) (a .ranks .now) (code (c .read-outcome .result))
+    let a = c .before .before .before .before .before .args in
+    ReadNumber (sizes (a .self)) (samples (a .xs .now) (a .ys .now) (a .marks .now)) (a .table .now) (a .ranks .now) (code (c .read-outcome .result))
 number c =
-    let a = c .before .before .before .before .args in
-    rw (c .read-outcome .ensures) (read-number (a .self) (samples (a .xs .now) (a .ys .now) (a .marks .now)) (a .table .now) (a .ranks .now))
+    let a = c .before .before .before .before .before .args in
+    rw (c .read-outcome .ensures, c .before .sizes .ensures) (read-number (sizes (a .self)) (samples (a .xs .now) (a .ys .now) (a .marks .now)) (a .table .now) (a .ranks .now))
 
 -- where they refused nothing
 passed : (c : tie.After-enum-told) →
-    let a = c .before .before .before .before .before .before .args in
-    Passed (a .self) (samples (a .xs .now) (a .ys .now) (a .marks .now)) × PassedTable (a .self) (a .table .now) × (a .self .held ≤ length (a .ranks .now)) × (2 ≤ a .self .held)
-passed c = read-passed _ _ _ (c .before .before .before .before .before .before .args .ranks .now) (rw (c .enum-told .given .1) at (number (c .before .before)))
+    let a = c .before .before .before .before .before .before .before .args in
+    Passed (sizes (a .self)) (samples (a .xs .now) (a .ys .now) (a .marks .now)) × PassedTable (sizes (a .self)) (a .table .now) × (a .self .held ≤ length (a .ranks .now)) × (2 ≤ a .self .held)
+passed c = read-passed _ _ _ (c .before .before .before .before .before .before .before .args .ranks .now) (rw (c .enum-told .given .1) at (number (c .before .before)))
+
+sizes-requires : tie.Need-sizes-requires
+sizes-requires c κs = search needs
 
 read-outcome-requires : tie.Need-read-outcome-requires
 read-outcome-requires c κs = search needs
@@ -73,6 +77,7 @@ pub read-spec : {M : Type 1} → statement M
 read-spec =
     tie.close
     (tie.spec
+    sizes-requires
     read-outcome-requires
     enum-told
     enum-told-2

@@ -3,9 +3,9 @@ use mathlib.Core.Path.{refl}
 use native.Mathlib.Omega.{arith}
 use borrow.Author.Needs.{needs}
 use Rattle.refusal.specs.Number.{code}
-use Rattle.trace.specs.Numbers.{StartNumber}
-use Rattle.trace.proofs.Numbers.{start-number}
-use Rattle.trace.proofs.Passed.{start-passed}
+use Rattle.checks.specs.Numbers.{StartNumber}
+use Rattle.checks.proofs.Numbers.{start-number}
+use Rattle.checks.proofs.Passed.{start-passed}
 use Rattle.trace.proofs.Calls.{done-refused}
 use Rattle.trace.proofs.Trace.start.Statement.{statement}
 use Rattle.trace.proofs.Trace.start.Tie as tie

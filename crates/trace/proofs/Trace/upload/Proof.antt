@@ -2,9 +2,9 @@
 use Prim.Native.Nat.{_<_}
 use lib.ListN.{length}
 use Rattle.geometry.specs.Samples.{samples}
-use Rattle.trace.specs.Calls.{buffers}
-use Rattle.trace.specs.Upload.{OneLength}
-use Rattle.trace.specs.Rows.{Passed, PassedTable}
+use Rattle.trace.specs.Calls.{sizes, buffers}
+use Rattle.checks.specs.Numbers.{OneLength}
+use Rattle.checks.specs.Rows.{Passed, PassedTable}
 use Rattle.trace.proofs.Upload.{upload-stopped, upload-ready}
 use borrow.Author.Needs.{needs}
 use Rattle.trace.proofs.Trace.upload.Statement.{statement}
@@ -12,13 +12,16 @@ use Rattle.trace.proofs.Trace.upload.Tie as tie
 
 -- where the checks before the first sample refused nothing
 ready : (c : tie.After-enum-told) →
-    let a = c .before .before .before .before .before .before .before .before .before .before .args in
+    let a = c .before .before .before .before .before .before .before .before .before .before .before .args in
     OneLength (samples (a .across .now) (a .up .now) (a .restarts .now))
-    × (0 < length (a .across .now) → Passed (a .self) (samples (a .xs .now) (a .ys .now) (a .marks .now)) × PassedTable (a .self) (a .table .now))
+    × (0 < length (a .across .now) → Passed (sizes (a .self)) (samples (a .xs .now) (a .ys .now) (a .marks .now)) × PassedTable (sizes (a .self)) (a .table .now))
 ready c =
-    let a = c .before .before .before .before .before .before .before .before .before .before .args in
+    let a = c .before .before .before .before .before .before .before .before .before .before .before .args in
     upload-ready (a .self) (buffers (samples (a .xs .now) (a .ys .now) (a .marks .now)) (a .table .now)) (samples (a .across .now) (a .up .now) (a .restarts .now))
-    (rw (c .before .before .upload-outcome .ensures) at (c .enum-told .given .1))
+    (rw (c .before .before .upload-outcome .ensures, c .before .before .before .before .before .before .before .sizes .ensures) at (c .enum-told .given .1))
+
+sizes-requires : tie.Need-sizes-requires
+sizes-requires c κs = search needs
 
 upload-outcome-requires : tie.Need-upload-outcome-requires
 upload-outcome-requires c κs = search needs
@@ -40,9 +43,9 @@ same-length-4 c = search needs
 
 returns : tie.Need-returns
 returns c =
-    let a = c .before .before .before .before .before .before .before .before .before .before .before .args in
+    let a = c .before .before .before .before .before .before .before .before .before .before .before .before .args in
     upload-stopped (a .self) (buffers (samples (a .xs .now) (a .ys .now) (a .marks .now)) (a .table .now)) (samples (a .across .now) (a .up .now) (a .restarts .now))
-    (rw (c .before .before .before .upload-outcome .ensures) at (c .before .o .given .1))
+    (rw (c .before .before .before .upload-outcome .ensures, c .before .before .before .before .before .before .before .before .sizes .ensures) at (c .before .o .given .1))
 
 enum-told : tie.Need-enum-told
 enum-told c = search needs
@@ -76,6 +79,7 @@ pub upload-spec : {M : Type 1} → statement M
 upload-spec =
     tie.close
     (tie.spec
+    sizes-requires
     upload-outcome-requires
     enum-known-o
     same-length

@@ -1,0 +1,53 @@
+-- `checks::samples_outcome` meets its contract. Assumes nothing.
+use mathlib.Core.Path.{_≡_, sym, _∙_}
+use borrow.Author.Needs.{needs}
+use Rattle.refusal.specs.declared.Outcome.the-variants.{Done}
+use Rattle.refusal.proofs.Laws.{then-refused}
+use Rattle.geometry.specs.Samples.{samples}
+use Rattle.checks.specs.Rows.{lengths, samplesLent, lentOutcome, samplesOutcome}
+use Rattle.checks.proofs.Checks.{samples-held}
+use Rattle.checks.proofs.samples_outcome.Statement.{statement}
+use Rattle.checks.proofs.samples_outcome.Tie as tie
+
+-- in the arm that goes on checks 1 to 4 have passed
+passed : (c : tie.After-enum-told) →
+    let a = c .before .before .before .before .args in
+    lentOutcome (a .s) (samplesLent (a .s .capacity) (lengths (samples (a .xs .now) (a .ys .now) (a .marks .now)))) ≡ Done
+passed c = sym (c .before .before .samples-room .ensures) ∙ c .enum-told .given .1
+
+samples-room-requires : tie.Need-samples-room-requires
+samples-room-requires c κs = search needs
+
+enum-told : tie.Need-enum-told
+enum-told c = search needs
+
+enum-told-2 : tie.Need-enum-told-2
+enum-told-2 c = search needs
+
+returns : tie.Need-returns
+unfolding samplesOutcome
+returns c = then-refused _ (c .before .before .samples-room .ensures) (c .enum-told2 .given .1)
+
+samples-ok-requires : tie.Need-samples-ok-requires
+samples-ok-requires c κs = let a = c .before .before .before .before .args in samples-held (a .s) (samples (a .xs .now) (a .ys .now) (a .marks .now)) (passed c)
+
+unless-requires : tie.Need-unless-requires
+unless-requires c κs = search needs
+
+returns-2 : tie.Need-returns-2
+unfolding samplesOutcome
+returns-2 c =
+    let d = c .before in
+    rw (c .unless .ensures, d .samples-ok .ensures, passed (d .before))
+
+pub samples-outcome-spec : {M : Type 1} → statement M
+samples-outcome-spec =
+    tie.close
+    (tie.spec
+    samples-room-requires
+    enum-told
+    enum-told-2
+    returns
+    samples-ok-requires
+    unless-requires
+    returns-2)
