@@ -1,0 +1,129 @@
+// What replay keeps from one command to the next, and the commands one after the other.
+ghost use Prim.Native.Nat.{_≤_};
+ghost use lib.ListN.{length};
+use crate::calls;
+use crate::calls::Call;
+use script::command;
+use script::command::Command;
+use script::lent;
+use script::lent::Lengths;
+use script::lent::Lent;
+use script::lists;
+use script::lists::Lists;
+use script::part;
+use script::say;
+use trace::Trace;
+
+struct State {
+    trace: Trace,
+    lent: Lent,
+    lists: Lists,
+}
+
+// The state before the first command.
+fn fresh() -> State {
+    let trace = Trace {
+        levels: 0,
+        capacity: 0,
+        held: 0,
+        tolerances: [0; 16],
+    };
+    let lent = lent::nothing();
+    let lists = lists::empty();
+    State { trace, lent, lists }
+}
+
+// A call over the first values of each buffer.
+fn lend(
+    call: Call,
+    n: Lengths,
+    x: [i16; part::ROOM],
+    y: [i16; part::ROOM],
+    m: [u8; part::ROOM],
+    r: [u8; part::ROOM],
+    cells: &mut [u16],
+) -> State
+    requires { ⌜ (n .xs ≤ 320) × (n .ys ≤ 320) × (n .marks ≤ 320) × (n .ranks ≤ 320) × (n .cells ≤ length (now cells)) ⌝ }
+{
+    let lists = call.lists;
+    let nx = n.xs;
+    let ny = n.ys;
+    let nm = n.marks;
+    let nr = n.ranks;
+    let nt = n.cells;
+    let mut x = x;
+    let mut y = y;
+    let mut m = m;
+    let mut r = r;
+    let trace = calls::carry_out(
+        call,
+        &mut x[..nx],
+        &mut y[..ny],
+        &mut m[..nm],
+        &mut cells[..nt],
+        &mut r[..nr],
+    );
+    let lent = lent::of(n, x, y, m, r);
+    State { trace, lent, lists }
+}
+
+// A call over what is lent.
+fn give(command: Command, state: State, cells: &mut [u16]) -> State {
+    let trace = state.trace;
+    let lent = state.lent;
+    let lists = state.lists;
+    let xs = lent.xs;
+    let ys = lent.ys;
+    let marks = lent.marks;
+    let ranks = lent.ranks;
+    let x = xs.values;
+    let y = ys.values;
+    let m = marks.values;
+    let r = ranks.values;
+    let n = lent::each_length(lent, cells.len());
+    let call = Call {
+        command,
+        trace,
+        lists,
+    };
+    lend(call, n, x, y, m, r, cells)
+}
+
+// The state after a command: after a call over what is lent, or, of any other, each part by the operations that are its own.
+fn obey(command: Command, state: State, cells: &mut [u16]) -> State {
+    if calls::takes_buffers(command.operation()) {
+        return give(command, state, cells);
+    }
+    let trace = state.trace;
+    let lent = state.lent;
+    let lists = state.lists;
+    let trace = calls::alone(command, trace);
+    let lent = lent::after(command, lent, cells);
+    let lists = lists::after(command, lists);
+    State { trace, lent, lists }
+}
+
+// Carry a command out, and end its line.
+fn turn(command: Command, steps: &[u32; 256], state: State, cells: &mut [u16]) -> State {
+    if !calls::is_good(command) {
+        say::unknown();
+        return state;
+    }
+    let next = obey(command, state, cells);
+    if calls::has_digest(command.operation()) {
+        let lent = next.lent;
+        lent::say_digest(steps, lent, cells);
+    }
+    next
+}
+
+// Carry out the commands of standard input. A proved loop has to end, so it counts down from a number that no script uses up.
+pub(crate) fn run(steps: &[u32; 256], cells: &mut [u16]) {
+    let mut bytes = [0u8; command::LENGTH];
+    let mut state = fresh();
+    let mut turns = u64::MAX;
+    while turns > 0 && command::next(&mut bytes) {
+        state = turn(Command { bytes }, steps, state, cells);
+        turns -= 1;
+    }
+}

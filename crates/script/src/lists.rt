@@ -1,0 +1,59 @@
+// The lists of an upload.
+use crate::command::Command;
+use crate::part;
+use crate::part::Bytes;
+use crate::part::Shorts;
+use crate::say;
+
+pub struct Lists {
+    pub across: Shorts,
+    pub up: Shorts,
+    pub restarts: Bytes,
+}
+
+// Lists without values.
+pub fn empty() -> Lists {
+    let across = part::rising_shorts(0, 0, 0);
+    let up = part::rising_shorts(0, 0, 0);
+    let restarts = part::rising_bytes(0, 0, 0);
+    Lists {
+        across,
+        up,
+        restarts,
+    }
+}
+
+// list w v: append a value to the list w = 0 across, 1 up, 2 marks.
+fn list(command: Command, lists: Lists) -> Lists {
+    let w = command.bits(0);
+    let v = command.bits(1);
+    let mut across = lists.across;
+    let mut up = lists.up;
+    let mut restarts = lists.restarts;
+    if w == 0 {
+        across = part::with_short(across, v);
+    } else if w == 1 {
+        up = part::with_short(up, v);
+    } else if w == 2 {
+        restarts = part::with_byte(restarts, v);
+    } else {
+        say::unknown();
+    }
+    Lists {
+        across,
+        up,
+        restarts,
+    }
+}
+
+// The lists after a command: list is operation 10, empty 11, and no other changes them.
+pub fn after(command: Command, lists: Lists) -> Lists {
+    let operation = command.operation();
+    if operation == 10 {
+        return list(command, lists);
+    }
+    if operation == 11 {
+        return empty();
+    }
+    lists
+}
