@@ -9,15 +9,13 @@ use lib.ListN.{length}
 use borrow.Author.Tests.{leb-true}
 use Rattle.refusal.specs.declared.Outcome.the-variants.{Done}
 use Rattle.refusal.proofs.Laws.{unless-done, then-done}
-use Rattle.geometry.specs.Samples.{Samples}
-use Rattle.checks.specs.declared.Sizes.{Sizes}
-use Rattle.checks.specs.Numbers.{Sized}
-use Rattle.checks.specs.Rows.{setupOk, setupOutcome, lengths, samplesLent, tableLent, heldOutcome, lentOutcome}
-use Rattle.checks.proofs.Decided.{setup-decided, lent-samples, lent-table}
-
-pub setup-done : (m N : ℕ) (tols : List ℕ) → setupOutcome m N tols ≡ Done → Sized m N
-unfolding setupOutcome
-setup-done m N tols h = setup-decided m N .right (unless-done (setupOk m N) _ (then-done _ _ h .0))
+use Rattle.sample.specs.Samples.{Samples}
+use Rattle.sizes.specs.declared.Sizes.{Sizes}
+use Rattle.sizes.specs.Setup.{Sized}
+use Rattle.sizes.specs.Rows.{setupOutcome}
+use Rattle.checks.specs.Rows.{lengths, samplesLent, tableLent, heldOutcome, lentOutcome}
+use Rattle.sizes.proofs.Decided.{setup-done}
+use Rattle.checks.proofs.Decided.{lent-samples, lent-table}
 
 -- what checks 1 to 4 have shown
 pub record Lent (a : Sizes) (lent : Bool) : Type 0 where
@@ -38,7 +36,7 @@ lent-done a lent h =
 
 -- so each sample held has its places
 pub samples-held : (a : Sizes) (xs : Samples) → lentOutcome a (samplesLent (a .capacity) (lengths xs)) ≡ Done
-    → (a .held ≤ length (xs .across)) × (a .held ≤ length (xs .upward)) × (a .held ≤ length (xs .marks))
+    → (a .held ≤ length (xs .across)) × (a .held ≤ length (xs .up)) × (a .held ≤ length (xs .marks))
 samples-held a xs h =
     let l = lent-done a _ h in
     let p = lent-samples a xs .right (l .long) in
@@ -46,7 +44,7 @@ samples-held a xs h =
 
 -- and, where a table is lent, the stretches their cells, whatever else is lent
 pub table-held : (a : Sizes) (xs : Samples) (t : List ℕ) {lent : Bool} → Lent a lent → samplesLent (a .capacity) (lengths xs) && tableLent a (length t) ≡ true
-    → ((a .held ≤ length (xs .across)) × (a .held ≤ length (xs .upward)) × (a .held ≤ length (xs .marks)))
+    → ((a .held ≤ length (xs .across)) × (a .held ≤ length (xs .up)) × (a .held ≤ length (xs .marks)))
     × ((a .levels ≤ 16) × (a .capacity ≤ 256) × (a .levels * (a .capacity * a .capacity) ≤ length t) × (a .held ≤ a .capacity))
 table-held a xs t l e =
     let p = lent-table a xs t .right e in

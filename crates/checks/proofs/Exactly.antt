@@ -8,10 +8,14 @@ use native.Mathlib.Omega.{arith}
 use lib.ListN.{length}
 use Rattle.refusal.specs.Check.{Decides, First}
 use Rattle.refusal.proofs.Rows.{Above, above-none, above-first, reached-none, reached-next, reached-row, reached-all}
-use Rattle.geometry.specs.Samples.{Sample, Samples}
-use Rattle.checks.specs.declared.Sizes.{Sizes}
-use Rattle.checks.specs.Numbers.{Sized, Tolerances, Valid, LentSamples, LentTable, StoredSamples, StoredCells, Absent, Good, SetupNumber, TraceNumber, StartNumber, PutNumber, AskNumber, ReadNumber}
-use Rattle.checks.proofs.Decided.{lent-samples, lent-table, lent-ranks, samples-decided, stored-decided}
+use Rattle.sample.specs.declared.Sample.{Sample}
+use Rattle.sample.specs.Samples.{Samples}
+use Rattle.sizes.specs.declared.Sizes.{Sizes}
+use Rattle.sample.specs.Valid.{Valid}
+use Rattle.sizes.specs.Setup.{Sized, Tolerances, SetupNumber}
+use Rattle.checks.specs.Numbers.{LentSamples, LentTable, StoredSamples, StoredCells, Absent, Good, TraceNumber, StartNumber, PutNumber, AskNumber, ReadNumber}
+use Rattle.sample.proofs.Decided.{samples-decided}
+use Rattle.checks.proofs.Decided.{lent-samples, lent-table, lent-ranks, stored-decided}
 use Rattle.checks.specs.Rows.{Passed, PassedTable}
 use Rattle.checks.proofs.Passed.{past-1, past-2, past-3, past-4, samples-past, table-past, sample-past, ranks-past, put-past, ask-past, read-past}
 
@@ -96,7 +100,7 @@ pub record AskRows (a : Sizes) (xs : Samples) (k i j : ℕ) (n : ℕ) : Type 0 w
 pub ask-rows : (a : Sizes) (xs : Samples) (k i j : ℕ) {n : ℕ} → AskNumber a xs k i j n → AskRows a xs k i j n
 ask-rows a xs k i j h =
     record {
-      trace = trace-rows a (lent-samples a xs) (samples-decided a xs) (above-first 5 8 (omega arith) (above-none 8)) h;
+      trace = trace-rows a (lent-samples a xs) (samples-decided xs (a .held)) (above-first 5 8 (omega arith) (above-none 8)) h;
       row-8 = reached-row 8 (omega arith) (above-none 8) (samples-past a xs h);
       row-0 = reached-all (ask-past a xs k i j h);
     }

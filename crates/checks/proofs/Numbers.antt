@@ -9,25 +9,27 @@ use native.Mathlib.Omega.{arith}
 use lib.Dec.{leb, ltb, eqb}
 use lib.ListN.{length}
 use borrow.Author.Tests.{leb-true, leb-false, ltb-true, ltb-false, eqb-true, eqb-false}
-use Rattle.refusal.specs.declared.Refusal.the-variants.{Setup, Tolerance, Buffer, Held, Stored, Coordinate, Full, Missing, Few}
+use Rattle.refusal.specs.declared.Refusal.the-variants.{Buffer, Held, Stored, Coordinate, Full, Missing, Few}
 use Rattle.refusal.specs.declared.Refusal.{Refusal}
 use Rattle.refusal.specs.declared.Outcome.the-variants.{Done, Refused}
 use Rattle.refusal.specs.Number.{number, code}
 use Rattle.refusal.specs.Check.{unless, Decides, First}
 use Rattle.refusal.proofs.Laws.{then-done}
 use Rattle.refusal.proofs.Rows.{first-one, Row, test-row, unless-row, then-row, row-number}
-use Rattle.geometry.specs.Samples.{Sample, Samples}
-use Rattle.checks.specs.declared.Sizes.{Sizes}
-use Rattle.checks.specs.Numbers.{Valid, LentSamples, LentTable, StoredSamples, StoredCells, SetupNumber, TraceNumber, PlaceNumber, Good, StartNumber, PutNumber, AskNumber, ReadNumber}
-use Rattle.checks.specs.Rows.{setupOutcome, heldOutcome, lentOutcome, samplesOutcome, traceOutcome, placeOutcome, sampleOutcome, putOutcome, askOutcome, readOutcome}
-use Rattle.checks.proofs.Decided.{setup-decided, tolerances-decided, lent-samples, lent-table, lent-ranks, samples-decided, stored-decided, sample-decided, there-decided, absent, not-both}
+use Rattle.sample.specs.declared.Sample.{Sample}
+use Rattle.sample.specs.Samples.{Samples}
+use Rattle.sizes.specs.declared.Sizes.{Sizes}
+use Rattle.sample.specs.Valid.{Valid}
+use Rattle.sizes.specs.Setup.{SetupNumber}
+use Rattle.checks.specs.Numbers.{LentSamples, LentTable, StoredSamples, StoredCells, TraceNumber, PlaceNumber, Good, StartNumber, PutNumber, AskNumber, ReadNumber}
+use Rattle.sizes.specs.Rows.{setupOutcome}
+use Rattle.checks.specs.Rows.{heldOutcome, lentOutcome, samplesOutcome, traceOutcome, placeOutcome, sampleOutcome, putOutcome, askOutcome, readOutcome}
+use Rattle.sample.proofs.Decided.{samples-decided, sample-decided}
+use Rattle.sizes.proofs.Decided.{setup-row}
+use Rattle.checks.proofs.Decided.{lent-samples, lent-table, lent-ranks, stored-decided, there-decided, absent, not-both}
 use Rattle.checks.proofs.Checks.{lent-done}
 
 -- ---- the shared rows: 1 and 2, 1 to 4, 1 to 5
-pub setup-row : (m N : ℕ) (tols : List ℕ) → Row (setupOutcome m N tols) (SetupNumber m N tols)
-unfolding setupOutcome
-setup-row m N tols = then-row _ _ (unless-row _ Setup (setup-decided m N)) (λ e. unless-row _ Tolerance (tolerances-decided m tols))
-
 pub held-row : (a : Sizes) {Lent : Type 0} (lent : Bool) → Decides Lent lent
     → Row (lentOutcome a lent) (λ rest. SetupNumber (a .levels) (a .capacity) (a .tolerances) (First 3 (Lent → ⊥) (First 4 (a .capacity < a .held) rest)))
 unfolding lentOutcome heldOutcome
@@ -38,7 +40,7 @@ held-row a lent d =
 
 pub samples-row : (a : Sizes) (xs : Samples) → Row (samplesOutcome a xs) (TraceNumber a (LentSamples a xs) (StoredSamples a xs))
 unfolding samplesOutcome
-samples-row a xs = then-row _ _ (held-row a _ (lent-samples a xs)) (λ e. unless-row _ Stored (samples-decided a xs))
+samples-row a xs = then-row _ _ (held-row a _ (lent-samples a xs)) (λ e. unless-row _ Stored (samples-decided xs (a .held)))
 
 pub trace-row : (a : Sizes) (xs : Samples) (t : List ℕ) → Row (traceOutcome a xs t) (TraceNumber a (LentSamples a xs × LentTable a t) (StoredSamples a xs × StoredCells a t))
 unfolding traceOutcome

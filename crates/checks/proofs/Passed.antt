@@ -12,12 +12,17 @@ use Rattle.refusal.specs.declared.Outcome.the-variants.{Done}
 use Rattle.refusal.specs.Number.{code}
 use Rattle.refusal.specs.Check.{Decides, First}
 use Rattle.refusal.proofs.Rows.{Reached, reached-none, reached-as, reached-next, reached-more, reached-unless, reached-all, code-one}
-use Rattle.geometry.specs.Samples.{Sample, Samples}
-use Rattle.geometry.specs.Sweep.{Ranged}
-use Rattle.checks.specs.declared.Sizes.{Sizes}
-use Rattle.checks.specs.Numbers.{Sized, Tolerances, Valid, LentSamples, LentTable, StoredSamples, StoredCells, Good, SetupNumber, TraceNumber, StartNumber, PutNumber, AskNumber, ReadNumber}
+use Rattle.sample.specs.declared.Sample.{Sample}
+use Rattle.sample.specs.Samples.{Samples}
+use Rattle.sample.specs.Sweep.{Ranged}
+use Rattle.sizes.specs.declared.Sizes.{Sizes}
+use Rattle.sample.specs.Valid.{Valid}
+use Rattle.sizes.specs.Setup.{Sized, Tolerances, SetupNumber}
+use Rattle.checks.specs.Numbers.{LentSamples, LentTable, StoredSamples, StoredCells, Good, TraceNumber, StartNumber, PutNumber, AskNumber, ReadNumber}
 use Rattle.checks.specs.Rows.{traceOutcome, Passed, PassedTable}
-use Rattle.checks.proofs.Decided.{setup-decided, tolerances-decided, lent-samples, lent-table, lent-ranks, samples-decided, stored-decided, sample-decided, not-both, there}
+use Rattle.sample.proofs.Decided.{samples-decided, sample-decided}
+use Rattle.sizes.proofs.Decided.{setup-decided, tolerances-decided}
+use Rattle.checks.proofs.Decided.{lent-samples, lent-table, lent-ranks, stored-decided, not-both, there}
 use Rattle.checks.proofs.Numbers.{trace-number}
 
 -- ---- how far a call came, by its number: past checks 1 and 2
@@ -45,7 +50,7 @@ module _ (a : Sizes) (xs : Samples) where
   samples-past h =
       reached-as
       (λ p. record { sized = p .0; tolerances = p .1; lent = p .2; held = p .3; stored = p .4 }, λ q. (q .sized, q .tolerances, q .lent, q .held, q .stored))
-      (past-5 a (lent-samples a xs) (samples-decided a xs) h)
+      (past-5 a (lent-samples a xs) (samples-decided xs (a .held)) h)
 
   pub ask-past : {n : ℕ} (k i j : ℕ) → AskNumber a xs k i j n → Reached (Passed a xs × (i < j) × (j < a .held) × (1 ≤ k) × (k ≤ a .levels)) 8 Good n
   ask-past k i j h = reached-more 8 (omega arith) (λ p. let s = there a k i j (p .1) in (p .0, s .0, s .1, s .2, s .3), λ q. (q .0, λ n. not-both a k i j n (q .1, q .2, q .3, q .4))) (samples-past h)
@@ -116,5 +121,5 @@ read-passed a xs t ranks h = read-past a xs t ranks h .passed (inl refl)
 pub in-range : {a : Sizes} {xs : Samples} → Passed a xs → Ranged xs (a .held)
 in-range P = record {
   across = record { held = le-trans (P .held) (P .lent .0); each = λ q l. P .stored q l .0 };
-  upward = record { held = le-trans (P .held) (P .lent .1); each = λ q l. P .stored q l .1 };
+  up = record { held = le-trans (P .held) (P .lent .1); each = λ q l. P .stored q l .1 };
 }

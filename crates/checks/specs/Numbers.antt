@@ -2,47 +2,30 @@
 use mathlib.Core.Path.{_≡_}
 use mathlib.Core.Logic.{_⊎_}
 use mathlib.Core.List.{List}
-use Prim.Native.Nat.{ℕ, _+_, _*_, _≤_, _<_}
-use lib.ListN.{length, getD}
+use Prim.Native.Nat.{ℕ, _*_, _≤_, _<_}
+use lib.ListN.{length}
 use Rattle.refusal.specs.Check.{First}
-use Rattle.geometry.specs.Coordinate.{Coord}
-use Rattle.geometry.specs.Mark.{Mark}
-use Rattle.geometry.specs.Samples.{Sample, Samples, sampleAt}
+use Rattle.sample.specs.declared.Sample.{Sample}
+use Rattle.sample.specs.Samples.{Samples}
+use Rattle.sample.specs.Valid.{Valid, AllValid}
+use Rattle.sizes.specs.declared.Sizes.{Sizes}
+use Rattle.sizes.specs.Setup.{SetupNumber}
 use Rattle.family.specs.Fine.{Checked}
 use Rattle.table.specs.Table.{cell}
-use Rattle.checks.specs.declared.Sizes.{Sizes}
-
--- levels and capacity are in range
-abbrev pub Sized : ℕ → ℕ → Type 0
-Sized m N = (1 ≤ m) × (m ≤ 16) × (2 ≤ N) × (N ≤ 256)
-
--- the tolerances of levels 1 to m are in range, each larger than the one before; those past m are not spoken of
-pub record Tolerances (m : ℕ) (tols : List ℕ) : Type 0 where
-  pub low : (l : ℕ) → l < m → 1 ≤ getD tols l 0
-  pub high : (l : ℕ) → l < m → getD tols l 0 ≤ 32768
-  pub rise : (l : ℕ) → l + 1 < m → getD tols l 0 < getD tols (l + 1) 0
 
 -- the buffers of coordinates and marks have N places; the table m · N · N cells
 abbrev pub LentSamples : Sizes → Samples → Type 0
-LentSamples a xs = (a .capacity ≤ length (xs .across)) × (a .capacity ≤ length (xs .upward)) × (a .capacity ≤ length (xs .marks))
+LentSamples a xs = (a .capacity ≤ length (xs .across)) × (a .capacity ≤ length (xs .up)) × (a .capacity ≤ length (xs .marks))
 
 abbrev pub LentTable : Sizes → List ℕ → Type 0
 LentTable a t = a .levels * (a .capacity * a .capacity) ≤ length t
 
--- a sample's coordinates are in range, and its mark is 0 or 1
-abbrev pub Valid : Sample → Type 0
-Valid x = Coord (x .across) × Coord (x .upward) × Mark (x .mark)
-
 -- each sample held is valid; their cells pass check 5
 abbrev pub StoredSamples : Sizes → Samples → Type 0
-StoredSamples a xs = (q : ℕ) → q < a .held → Valid (sampleAt xs q)
+StoredSamples a xs = AllValid xs (a .held)
 
 abbrev pub StoredCells : Sizes → List ℕ → Type 0
 StoredCells a t = Checked (cell t (a .capacity)) (a .levels) (a .held)
-
--- 1 and 2, of every call
-abbrev pub SetupNumber : ℕ → ℕ → List ℕ → (ℕ → Type 0) → ℕ → Type 0
-SetupNumber m N tols rest = First 1 (Sized m N → ⊥) (First 2 (Tolerances m tols → ⊥) rest)
 
 -- 1 to 5, of every call on a trace, by what is to be lent and what is to be stored
 abbrev pub TraceNumber : Sizes → Type 0 → Type 0 → (ℕ → Type 0) → ℕ → Type 0
@@ -88,4 +71,4 @@ ReadNumber a xs t ranks =
 
 -- the lists of an upload are of one length
 abbrev pub OneLength : Samples → Type 0
-OneLength us = (length (us .across) ≡ length (us .upward)) × (length (us .across) ≡ length (us .marks))
+OneLength us = (length (us .across) ≡ length (us .up)) × (length (us .across) ≡ length (us .marks))

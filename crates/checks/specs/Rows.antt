@@ -1,46 +1,30 @@
 -- The rows of tests that the code is proved against, and what holds once they have passed.
 -- `proofs/Numbers.antt` shows that each row gives the number of `Numbers.antt`. Assumes nothing.
-use Prim.Native.Nat.{ℕ, zero, suc, _*_, _≤_}
+use Prim.Native.Nat.{ℕ, _*_, _≤_}
 use mathlib.Core.Bool.{Bool, _&&_, cond}
 use mathlib.Core.List.{List}
 use lib.Dec.{leb, ltb, eqb}
-use lib.ListN.{length, getD}
-use Rattle.refusal.specs.declared.Refusal.the-variants.{Setup, Tolerance, Buffer, Held, Stored, Coordinate, Full, Missing, Few}
+use lib.ListN.{length}
+use Rattle.refusal.specs.declared.Refusal.the-variants.{Buffer, Held, Stored, Coordinate, Full, Missing, Few}
 use Rattle.refusal.specs.declared.Outcome.{Outcome}
 use Rattle.refusal.specs.declared.Outcome.the-variants.{Done}
-use Rattle.refusal.specs.Check.{unless, andThen, allBelow, from-to}
-use Rattle.geometry.specs.Coordinate.{coordinateOk, coordinatesOk}
-use Rattle.geometry.specs.Mark.{markOk, marksOk}
-use Rattle.geometry.specs.Samples.{Sample, Samples}
+use Rattle.refusal.specs.Check.{unless, andThen, from-to}
+use Rattle.sample.specs.declared.Sample.{Sample}
+use Rattle.sample.specs.Samples.{Samples}
+use Rattle.sample.specs.Valid.{sampleOk, samplesOk}
+use Rattle.sizes.specs.declared.Sizes.{Sizes}
+use Rattle.sizes.specs.Setup.{Sized, Tolerances}
+use Rattle.sizes.specs.Rows.{setupOutcome}
 use Rattle.table.specs.Check.{cellsOk}
-use Rattle.checks.specs.declared.Sizes.{Sizes}
 use Rattle.checks.specs.declared.Lengths.{Lengths}
-use Rattle.checks.specs.Numbers.{Sized, Tolerances, LentSamples, LentTable, StoredSamples, StoredCells}
-
--- 1
-unfoldable pub setupOk : ℕ → ℕ → Bool
-setupOk m N = from-to 1 16 m && from-to 2 256 N
-
--- 2: each tolerance is above the one before, the first above 0
-abbrev pub before : List ℕ → ℕ → ℕ
-before tols zero = 0
-before tols (suc l) = getD tols l 0
-
-unfoldable pub toleranceOk : List ℕ → ℕ → Bool
-toleranceOk tols l = ltb (before tols l) (getD tols l 0) && leb (getD tols l 0) 32768
-
-unfoldable pub tolerancesOk : ℕ → List ℕ → Bool
-tolerancesOk m tols = allBelow m (toleranceOk tols)
-
-unfoldable pub setupOutcome : ℕ → ℕ → List ℕ → Outcome
-setupOutcome m N tols = andThen (unless (setupOk m N) Setup) (unless (tolerancesOk m tols) Tolerance)
+use Rattle.checks.specs.Numbers.{LentSamples, LentTable, StoredSamples, StoredCells}
 
 -- 3, by lengths, a test for each buffer: N places across, up and of marks, and m · N · N cells
 abbrev pub lengths : Samples → Lengths
-lengths xs = record { across = length (xs .across); upward = length (xs .upward); marks = length (xs .marks) }
+lengths xs = record { across = length (xs .across); up = length (xs .up); marks = length (xs .marks) }
 
 abbrev pub samplesLent : ℕ → Lengths → Bool
-samplesLent N l = (leb N (l .across) && leb N (l .upward)) && leb N (l .marks)
+samplesLent N l = (leb N (l .across) && leb N (l .up)) && leb N (l .marks)
 
 abbrev pub tableLent : Sizes → ℕ → Bool
 tableLent a cells = leb (a .levels * (a .capacity * a .capacity)) cells
@@ -53,26 +37,19 @@ heldOutcome a lent = andThen (unless lent Buffer) (unless (leb (a .held) (a .cap
 unfoldable pub lentOutcome : Sizes → Bool → Outcome
 lentOutcome a lent = andThen (setupOutcome (a .levels) (a .capacity) (a .tolerances)) (heldOutcome a lent)
 
--- 5 of the coordinates and marks
-unfoldable pub samplesOk : ℕ → Samples → Bool
-samplesOk n xs = coordinatesOk (xs .across) n && (coordinatesOk (xs .upward) n && marksOk (xs .marks) n)
-
--- and of the cells
+-- 5 of the samples and of the cells
 unfoldable pub storedOk : Sizes → Samples → List ℕ → Bool
-storedOk a xs t = samplesOk (a .held) xs && cellsOk t (a .capacity) (a .held) (a .levels)
+storedOk a xs t = samplesOk xs (a .held) && cellsOk t (a .capacity) (a .held) (a .levels)
 
 -- 1 to 5 of a call that is lent the samples alone, and of one that is lent the table too
 unfoldable pub samplesOutcome : Sizes → Samples → Outcome
-samplesOutcome a xs = andThen (lentOutcome a (samplesLent (a .capacity) (lengths xs))) (unless (samplesOk (a .held) xs) Stored)
+samplesOutcome a xs = andThen (lentOutcome a (samplesLent (a .capacity) (lengths xs))) (unless (samplesOk xs (a .held)) Stored)
 
 unfoldable pub traceOutcome : Sizes → Samples → List ℕ → Outcome
 traceOutcome a xs t =
     andThen (lentOutcome a (samplesLent (a .capacity) (lengths xs) && tableLent a (length t))) (unless (storedOk a xs t) Stored)
 
--- 6, and 8 of a stretch and a level
-unfoldable pub sampleOk : Sample → Bool
-sampleOk x = coordinateOk (x .across) && (coordinateOk (x .upward) && markOk (x .mark))
-
+-- 8 of a stretch and a level
 unfoldable pub stretchOk : Sizes → ℕ → ℕ → ℕ → Bool
 stretchOk a k i j = ltb i j && (ltb j (a .held) && from-to 1 (a .levels) k)
 
@@ -86,7 +63,7 @@ sampleOutcome a v x = andThen (unless (sampleOk x) Coordinate) (placeOutcome a v
 
 -- 3 of the lists of an upload, by their lengths
 abbrev pub listsOk : Lengths → Bool
-listsOk l = eqb (l .across) (l .upward) && eqb (l .across) (l .marks)
+listsOk l = eqb (l .across) (l .up) && eqb (l .across) (l .marks)
 
 -- the row of each call; an upload's up to its first sample, by the lengths of its lists
 unfoldable pub putOutcome : Sizes → Samples → List ℕ → ℕ → Sample → Outcome

@@ -7,7 +7,8 @@ use Prim.Native.Nat.{ℕ, suc, _*_, _≤_, _<_}
 use native.Mathlib.Omega.{arith}
 use lib.ListN.{length}
 use Rattle.refusal.proofs.Plain.{decided}
-use Rattle.geometry.specs.Samples.{Sample, Samples, store}
+use Rattle.sample.specs.declared.Sample.{Sample}
+use Rattle.sample.specs.Samples.{Samples, store}
 use Rattle.family.specs.Family.{value, after, Genuine}
 use Rattle.family.specs.Fine.{Fine, Checked}
 use Rattle.family.proofs.Checks.{room, checked-near, checked-by}

@@ -6,10 +6,11 @@ use mathlib.Core.List.{List, [], _∷_, List·Memᴰ as In}
 use Prim.Native.Nat.{ℕ, zero, suc, _+_, _≤_, _<_}
 use native.Mathlib.Omega.{arith}
 use Rattle.refusal.specs.Check.{Decides}
-use Rattle.geometry.specs.Mark.{Marked}
-use Rattle.geometry.specs.Samples.{Sample, Samples, store}
-use Rattle.geometry.specs.Sweep.{Ranged}
-use Rattle.geometry.proofs.Coordinate.{fewer-ranged}
+use Rattle.sample.specs.Mark.{Marked}
+use Rattle.sample.specs.declared.Sample.{Sample}
+use Rattle.sample.specs.Samples.{Samples, store}
+use Rattle.sample.specs.Sweep.{Ranged}
+use Rattle.sample.proofs.Coordinate.{fewer-ranged}
 use Rattle.family.specs.Family.{value, Genuine}
 use Rattle.family.specs.Levels as Levels
 use Rattle.family.specs.Fine.{Fine}

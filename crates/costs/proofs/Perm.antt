@@ -15,13 +15,14 @@ use lib.ListN.{getD, set}
 use lib.Seq.{getD-set-other}
 use Rattle.refusal.specs.Check.{Decides}
 use Rattle.refusal.proofs.Plain.{decides-unique}
-use Rattle.geometry.specs.Coordinate.{InRange}
+use Rattle.sample.specs.Coordinate.{InRange}
 use Rattle.geometry.specs.declared.Verdict.{Verdict}
-use Rattle.geometry.specs.Mark.{Marked}
+use Rattle.sample.specs.Mark.{Marked}
 use Rattle.geometry.specs.Near.{Along}
-use Rattle.geometry.specs.Samples.{Sample, Samples, samples, store}
+use Rattle.sample.specs.declared.Sample.{Sample}
+use Rattle.sample.specs.Samples.{Samples, samples, store}
 use Rattle.geometry.specs.Spoiler.{Told, isYes}
-use Rattle.geometry.specs.Sweep.{Ranged, noMarks}
+use Rattle.sample.specs.Sweep.{Ranged, noMarks}
 use Rattle.geometry.proofs.Marks.{Unmarked, unmarked-says}
 use Rattle.geometry.proofs.Spoiler.{says-decides, permits-decided}
 use Rattle.geometry.proofs.Permits.{permits-wider, permits-adjacent, permits-same, permits-stops, Same}
@@ -38,7 +39,7 @@ pub perm-judged : (xs ys : List ℤ) (tols : List ℕ) (k i j : ℕ) (v : Verdic
     → Told (Along xs ys i j (getD tols (k - 1) 0)) i j v → perm (samples xs ys noMarks) tols k i j ≡ isYes v
 unfolding perm
 perm-judged xs ys tols k i j v a b o s =
-    decides-unique _ (isYes v) (permits-decided xs′ i j e (record { across = a; upward = b }) o) (says-decides xs′ i j e v (unmarked-says xs′ i j e (λ l x y h. absurd (omega arith)) v s))
+    decides-unique _ (isYes v) (permits-decided xs′ i j e (record { across = a; up = b }) o) (says-decides xs′ i j e v (unmarked-says xs′ i j e (λ l x y h. absurd (omega arith)) v s))
   where
     xs′ : Samples
     xs′ = samples xs ys noMarks
@@ -74,15 +75,15 @@ other-put s v q i j x d (inr h) a b = sym (getD-set-other s v q x d (λ e. omega
 pub perm-put : (xs : Samples) (tols : List ℕ) (v k i j : ℕ) (x : Sample) → Without v i j → perm xs tols k i j ≡ perm (store xs v x) tols k i j
 perm-put xs tols v k i j x w = perm-same xs (store xs v x) tols k i j (record {
   across = λ q a b. other-put (xs .across) v q i j (x .across) (pos 0) w a b;
-  upward = λ q a b. other-put (xs .upward) v q i j (x .upward) (pos 0) w a b;
+  up = λ q a b. other-put (xs .up) v q i j (x .up) (pos 0) w a b;
   marks = λ q a b. let e = other-put (xs .marks) v q i j (x .mark) 0 w (le-of-lt a) (le-of-lt b) in (λ h. sym e ∙ h, λ h. e ∙ h);
 })
 
 -- where no sample between is marked, as where none is at all
-pub perm-unmarked : (xs : Samples) (tols : List ℕ) (k i j : ℕ) → Unmarked (xs .marks) i j → perm (samples (xs .across) (xs .upward) noMarks) tols k i j ≡ perm xs tols k i j
+pub perm-unmarked : (xs : Samples) (tols : List ℕ) (k i j : ℕ) → Unmarked (xs .marks) i j → perm (samples (xs .across) (xs .up) noMarks) tols k i j ≡ perm xs tols k i j
 perm-unmarked xs tols k i j u =
-    perm-same (samples (xs .across) (xs .upward) noMarks) xs tols k i j
-    (record { across = λ q a b. refl; upward = λ q a b. refl; marks = λ q a b. (λ h. absurd (omega arith), λ h. absurd (u q a b h)) })
+    perm-same (samples (xs .across) (xs .up) noMarks) xs tols k i j
+    (record { across = λ q a b. refl; up = λ q a b. refl; marks = λ q a b. (λ h. absurd (omega arith), λ h. absurd (u q a b h)) })
 
 -- and where one is, no level permits the stretch
 pub perm-stops : (xs : Samples) (tols : List ℕ) (k i j q : ℕ) → Marked (xs .marks) q → i < q → q < j → perm xs tols k i j ≡ false

@@ -6,7 +6,7 @@ use mathlib.Core.Logic.{_⊎_}
 use Prim.Native.Nat.{ℕ, suc, _+_, _-_, _≤_, _<_}
 use lib.Dec.{leb}
 use lib.ListN.{getD}
-use Rattle.geometry.specs.Samples.{Samples}
+use Rattle.sample.specs.Samples.{Samples}
 use Rattle.geometry.specs.Test.{permits}
 use Rattle.family.specs.Lists.{none}
 use Rattle.family.specs.Family.{value}

@@ -2,9 +2,9 @@
 ghost use mathlib.Core.Path.{_≡_};
 ghost use Prim.Native.Nat.{ℕ, suc, _+_, _-_, _*_, _≤_, _<_, min};
 ghost use lib.ListN.{length, getD};
-ghost use Rattle.geometry.specs.Coordinate.{InRange};
-ghost use Rattle.geometry.specs.Samples.{samples};
-ghost use Rattle.geometry.specs.Sweep.{Ranged, noMarks};
+ghost use Rattle.sample.specs.Coordinate.{InRange};
+ghost use Rattle.sample.specs.Samples.{samples};
+ghost use Rattle.sample.specs.Sweep.{Ranged, noMarks};
 ghost use Rattle.family.specs.Family.{below};
 ghost use Rattle.table.specs.Table.{cell, Wrote};
 ghost use Rattle.table.specs.Path.{SumAt};

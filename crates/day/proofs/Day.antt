@@ -10,7 +10,7 @@ use lib.ListN.{length, take, length-append, length-take}
 use lib.Seq.{take-all}
 use Rattle.refusal.specs.Check.{First}
 use Rattle.refusal.proofs.Rows.{first-one, first-has}
-use Rattle.geometry.specs.Coordinate.{Coord}
+use Rattle.sample.specs.Coordinate.{Coord}
 use Rattle.family.specs.Levels.{size, ranks}
 use Rattle.family.proofs.Choices.{chosen-one}
 use Rattle.family.proofs.Levels.{ranks-in}

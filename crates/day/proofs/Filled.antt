@@ -14,18 +14,19 @@ use Rattle.refusal.specs.declared.Outcome.the-variants.{Done, Refused}
 use Rattle.refusal.specs.Number.{number, code}
 use Rattle.refusal.specs.Check.{First, allBelow}
 use Rattle.refusal.proofs.Rows.{code-one, first-passed, first-same, numbered}
-use Rattle.geometry.specs.Samples.{Samples}
-use Rattle.geometry.specs.Sweep.{Ranged}
+use Rattle.sample.specs.Samples.{Samples}
+use Rattle.sample.specs.Sweep.{Ranged}
 use Rattle.record.specs.Pause.{pauseLineOf}
 use Rattle.record.proofs.Marks.{mark-small}
 use Rattle.trace.specs.declared.Trace.{Trace}
 use Rattle.trace.specs.declared.Started.{Started}
 use Rattle.trace.specs.declared.Changed.{Changed}
-use Rattle.checks.specs.Numbers.{Sized, Tolerances, TraceNumber}
+use Rattle.sizes.specs.Setup.{Sized, Tolerances}
+use Rattle.checks.specs.Numbers.{TraceNumber}
 use Rattle.trace.specs.Calls.{sizes, StartGives, PutGives, buffers}
-use Rattle.checks.specs.Rows.{tolerancesOk, toleranceOk}
+use Rattle.sizes.specs.Rows.{tolerancesOk, toleranceOk}
 use Rattle.trace.proofs.Calls.{done-refused}
-use Rattle.checks.proofs.Decided.{tolerances-decided}
+use Rattle.sizes.proofs.Decided.{tolerances-decided}
 use Rattle.trace.proofs.Formulas.{put-adds}
 use Rattle.history.specs.Run.{State, Call}
 use Rattle.history.specs.Run.Call.{put}
@@ -59,7 +60,7 @@ filled-none s l = record {
   room = omega arith;
   lent = l;
   across = λ q h. absurd (omega arith);
-  upward = λ q h. absurd (omega arith);
+  up = λ q h. absurd (omega arith);
   marks = λ q h. absurd (omega arith);
   costs = λ k i j a b o h. absurd (omega arith);
 }
@@ -74,7 +75,7 @@ module _ (s : List ℕ) (good : pauseLineOf s .outcome ≡ Done) (n : ℕ) {xs :
     pub filled-ranged : Ranged xs n
     filled-ranged = record {
       across = record { held = omega (arith, F .room, F .lent); each = λ q h. rw (F .across q h) (good-placed s good q (omega arith) .0) };
-      upward = record { held = omega (arith, F .room, F .lent); each = λ q h. rw (F .upward q h) (good-placed s good q (omega arith) .1) };
+      up = record { held = omega (arith, F .room, F .lent); each = λ q h. rw (F .up q h) (good-placed s good q (omega arith) .1) };
     }
 
     pub filled-sound : (ranks : List ℕ) → Sound (state (dayTrace n) (buffers xs t) ranks)
@@ -107,9 +108,9 @@ module _ (s : List ℕ) (good : pauseLineOf s .outcome ≡ Done) (n : ℕ) {xs :
           P .trace,
           record {
             room = omega arith;
-            lent = rw (P .samples) (length-set (xs .across) n _ ∙ F .lent .0, length-set (xs .upward) n _ ∙ F .lent .1, length-set (xs .marks) n _ ∙ F .lent .2, P .cells .same ∙ F .lent .3);
+            lent = rw (P .samples) (length-set (xs .across) n _ ∙ F .lent .0, length-set (xs .up) n _ ∙ F .lent .1, length-set (xs .marks) n _ ∙ F .lent .2, P .cells .same ∙ F .lent .3);
             across = rw (P .samples) (stored (pos 0) (λ q. sampleOf s q .across) (xs .across) n (omega (arith, F .lent .0)) (F .across));
-            upward = rw (P .samples) (stored (pos 0) (λ q. sampleOf s q .upward) (xs .upward) n (omega (arith, F .lent .1)) (F .upward));
+            up = rw (P .samples) (stored (pos 0) (λ q. sampleOf s q .up) (xs .up) n (omega (arith, F .lent .1)) (F .up));
             marks = rw (P .samples) (stored 0 (λ q. sampleOf s q .mark) (xs .marks) n (omega (arith, F .lent .2)) (F .marks));
             costs = S .costs;
           },

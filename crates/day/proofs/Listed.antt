@@ -8,9 +8,9 @@ use lib.IntN.{ℤ, pos}
 use lib.ListN.{length, getD, length-append, List·getD-append}
 use lib.Seq.{getD-at}
 use Rattle.refusal.specs.Check.{Decides}
-use Rattle.geometry.specs.Coordinate.{InRange}
-use Rattle.geometry.specs.Samples.{Samples}
-use Rattle.geometry.specs.Sweep.{Ranged}
+use Rattle.sample.specs.Coordinate.{InRange}
+use Rattle.sample.specs.Samples.{Samples}
+use Rattle.sample.specs.Sweep.{Ranged}
 use Rattle.geometry.proofs.Permits.{Same}
 use Rattle.family.specs.Levels.{Chosen, levels}
 use Rattle.family.proofs.Choices.{chosen-levels}
@@ -36,7 +36,7 @@ listed-at z f (suc n) q h = elim (decLt q n) [
 -- buffers that begin with the samples of n records
 module _ (s : List ℕ) (xs : Samples) (tols : List ℕ) (m n : ℕ) (ranged : Ranged xs n)
     (across : (q : ℕ) → q < n → getD (xs .across) q (pos 0) ≡ sampleOf s q .across)
-    (upward : (q : ℕ) → q < n → getD (xs .upward) q (pos 0) ≡ sampleOf s q .upward)
+    (up : (q : ℕ) → q < n → getD (xs .up) q (pos 0) ≡ sampleOf s q .up)
     (marks : (q : ℕ) → q < n → getD (xs .marks) q 0 ≡ sampleOf s q .mark) where
   listed-range : (h : ℕ → ℤ) (zs : List ℤ) → InRange zs n → ((q : ℕ) → q < n → getD zs q (pos 0) ≡ h q) → InRange (listed h n) n
   listed-range h zs I e = record { held = omega (arith, listed-length h n); each = λ q o. rw (listed-at (pos 0) h n q o, ← e q o) (I .each q o) }
@@ -44,13 +44,13 @@ module _ (s : List ℕ) (xs : Samples) (tols : List ℕ) (m n : ℕ) (ranged : R
   listed-ranged : Ranged (samplesOf s n) n
   listed-ranged = record {
     across = listed-range (λ q. sampleOf s q .across) (xs .across) (ranged .across) across;
-    upward = listed-range (λ q. sampleOf s q .upward) (xs .upward) (ranged .upward) upward;
+    up = listed-range (λ q. sampleOf s q .up) (xs .up) (ranged .up) up;
   }
 
   same : (i j : ℕ) → j < n → Same xs (samplesOf s n) i j
   same i j h = record {
     across = λ q u v. across q (omega arith) ∙ sym (listed-at (pos 0) (λ q. sampleOf s q .across) n q (omega arith));
-    upward = λ q u v. upward q (omega arith) ∙ sym (listed-at (pos 0) (λ q. sampleOf s q .upward) n q (omega arith));
+    up = λ q u v. up q (omega arith) ∙ sym (listed-at (pos 0) (λ q. sampleOf s q .up) n q (omega arith));
     marks = λ q u v. let e = marks q (omega arith) ∙ sym (listed-at 0 (λ q. sampleOf s q .mark) n q (omega arith)) in (λ p. sym e ∙ p, λ p. e ∙ p);
   }
 

@@ -10,8 +10,8 @@ use mir.Facts.{toZ-ofZ}
 use Rattle.refusal.specs.declared.Outcome.{Outcome}
 use Rattle.refusal.specs.declared.Outcome.the-variants.{Done}
 use Rattle.refusal.proofs.Plain.{not-refuted, both-decided}
-use Rattle.geometry.proofs.Coordinate.{coordinate-decided}
-use Rattle.geometry.proofs.Move.{narrow}
+use Rattle.sample.proofs.Coordinate.{coordinate-decided}
+use Rattle.sample.proofs.Move.{narrow}
 use Rattle.record.specs.declared.Decoded.{Decoded}
 use Rattle.record.specs.Record.{across, up, decodeOf, decodedBy}
 use Rattle.record.specs.Pause.{recordBytes, pauseLineOf, pauseSum}

@@ -11,7 +11,7 @@ use Rattle.refusal.specs.declared.Outcome.the-variants.{Done, Refused}
 use Rattle.refusal.specs.Number.{code}
 use Rattle.refusal.specs.Check.{First}
 use Rattle.refusal.proofs.Rows.{numbered}
-use Rattle.geometry.specs.Samples.{Samples}
+use Rattle.sample.specs.Samples.{Samples}
 use Rattle.family.specs.Levels.{levels}
 use Rattle.family.proofs.Levels.{ranks-levels}
 use Rattle.readout.specs.Read.{rank}
@@ -85,13 +85,13 @@ module _ (s : List ℕ) (good : pauseLineOf s .outcome ≡ Done) {xs : Samples} 
 
     day-levels : DayLevels s L
     day-levels =
-        chosen-listed s xs tolerances 3 (count s) (filled-ranged s good (count s) F (omega arith)) (F .across) (F .upward) (F .marks)
+        chosen-listed s xs tolerances 3 (count s) (filled-ranged s good (count s) F (omega arith)) (F .across) (F .up) (F .marks)
         (omega (arith, some)) (rank bytes′) (G .done d .best .highest) (shown .chosen)
 
-    day-text : heldText (xs .across) (xs .upward) bytes′ (count s) l (pauseSum s (count s)) ≡ levelsText s L
+    day-text : heldText (xs .across) (xs .up) bytes′ (count s) l (pauseSum s (count s)) ≡ levelsText s L
     unfolding levelsText
     day-text = rw (
-      held-lines s L (xs .across) (xs .upward) bytes′ (count s) (F .across) (F .upward)
+      held-lines s L (xs .across) (xs .up) bytes′ (count s) (F .across) (F .up)
           (λ q h. sym (ranks-levels (rank bytes′) 3 0 (count s - 1) q zero-le zero-le (omega arith) (G .done d .best .highest q h))),
       shown .total,
       shown .level 1 (omega arith) (omega arith),
@@ -100,7 +100,7 @@ module _ (s : List ℕ) (good : pauseLineOf s .outcome ≡ Done) {xs : Samples} 
     )
 
     -- the text of its levels
-    pub reported-day : {out out′ : List ℕ} {r : ℕ} → Written out 0 (heldText (xs .across) (xs .upward) bytes′ (count s) l (pauseSum s (count s))) out′ r → Reported s out out′ r
+    pub reported-day : {out out′ : List ℕ} {r : ℕ} → Written out 0 (heldText (xs .across) (xs .up) bytes′ (count s) l (pauseSum s (count s))) out′ r → Reported s out out′ r
     reported-day W = (
       levelsText s L,
       record { number = 0; given = inr (good-given s good, inr (fits, given)); refused = λ n. absurd (n refl); done = λ z. (L, day-levels, refl) },

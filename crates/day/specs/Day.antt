@@ -6,7 +6,8 @@ use Prim.Native.Nat.{ℕ, zero, suc, _*_, _-_, _/_, _<_}
 use lib.IntN.{ℤ}
 use lib.ListN.{length, replicate}
 use Rattle.refusal.specs.Check.{First}
-use Rattle.geometry.specs.Samples.{Sample, Samples, sample, samples}
+use Rattle.sample.specs.declared.Sample.{Sample}
+use Rattle.sample.specs.Samples.{Samples, sample, samples}
 use Rattle.family.specs.Levels.{Chosen, size, ranks}
 use Rattle.costs.specs.Costs.{Permit}
 use Rattle.record.specs.Record.{across, up}
@@ -30,7 +31,7 @@ sampleOf s i = sample (across s (16 * i)) (up s (16 * i)) (markAt s i)
 
 -- those of its first n records
 abbrev pub samplesOf : List ℕ → ℕ → Samples
-samplesOf s n = samples (listed (λ i. sampleOf s i .across) n) (listed (λ i. sampleOf s i .upward) n) (listed (λ i. sampleOf s i .mark) n)
+samplesOf s n = samples (listed (λ i. sampleOf s i .across) n) (listed (λ i. sampleOf s i .up) n) (listed (λ i. sampleOf s i .mark) n)
 
 -- tolerances 1, 4, 16 at three levels
 abbrev pub tolerances : List ℕ

@@ -7,7 +7,7 @@ use lib.ListN.{length, getD}
 use Rattle.refusal.specs.declared.Outcome.the-variants.{Done}
 use Rattle.refusal.specs.Number.{code}
 use Rattle.refusal.specs.Check.{First}
-use Rattle.geometry.specs.Samples.{Samples}
+use Rattle.sample.specs.Samples.{Samples}
 use Rattle.family.specs.Levels.{Costs}
 use Rattle.table.specs.Table.{cell}
 use Rattle.costs.specs.Costs.{Permit}
@@ -22,14 +22,14 @@ dayTrace n = record { levels = 3; capacity = 104; held = n; tolerances = toleran
 
 -- the buffers have the day's places, and nothing is asked of what they hold
 abbrev pub Lent : Samples → List ℕ → Type 0
-Lent xs t = (length (xs .across) ≡ 104) × (length (xs .upward) ≡ 104) × (length (xs .marks) ≡ 104) × (length t ≡ 32768)
+Lent xs t = (length (xs .across) ≡ 104) × (length (xs .up) ≡ 104) × (length (xs .marks) ≡ 104) × (length t ≡ 32768)
 
 -- the first n records of the file s are added: their samples are stored, and every cell is the cost of its stretch
 pub record Filled (s : List ℕ) (n : ℕ) (xs : Samples) (t : List ℕ) : Type 0 where
   pub room : n ≤ 104
   pub lent : Lent xs t
   pub across : (q : ℕ) → q < n → getD (xs .across) q (pos 0) ≡ sampleOf s q .across
-  pub upward : (q : ℕ) → q < n → getD (xs .upward) q (pos 0) ≡ sampleOf s q .upward
+  pub up : (q : ℕ) → q < n → getD (xs .up) q (pos 0) ≡ sampleOf s q .up
   pub marks : (q : ℕ) → q < n → getD (xs .marks) q 0 ≡ sampleOf s q .mark
   pub costs : Costs (Permit xs tolerances) (cell t 104) 3 n
 

@@ -5,7 +5,7 @@ ghost use Prim.Native.Nat.{_≤_, _<_};
 ghost use lib.ListN.{length, getD};
 ghost use Rattle.refusal.specs.declared.Outcome.the-variants.{Done};
 ghost use Rattle.refusal.specs.Number.{code};
-ghost use Rattle.geometry.specs.Samples.{samples};
+ghost use Rattle.sample.specs.Samples.{samples};
 ghost use Rattle.record.specs.Pause.{pauseLineOf, pauseSum};
 ghost use Rattle.trace.specs.Calls.{PutGives, buffers};
 ghost use Rattle.text.specs.Text.{Written, decimal};

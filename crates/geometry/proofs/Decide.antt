@@ -1,12 +1,13 @@
 -- The case is where the nearest point is, and the fraction is the exact squared distance; so one comparison decides `NearBy`. Assumes nothing.
 use mathlib.Core.Path.{_≡_, refl}
-use mathlib.Core.Bool.{Bool, true, false, cond}
+use mathlib.Core.Bool.{true, false}
 use Prim.Native.Nat.{ℕ, _+_, _*_, _≤_, _<_}
 use native.Mathlib.Omega.{arith}
 use lib.Dec.{leb}
 use lib.IntN.{ℤ, pos, natAbs, _-ℤ_}
 use lib.Signed.{leZ}
 use Rattle.refusal.specs.Check.{Decides}
+use Rattle.refusal.proofs.Plain.{by-cond}
 use Rattle.algebra.specs.Parts.{sq}
 use Rattle.algebra.proofs.Parts.{one-times, is-le, is-more, is-least, is-below, above-least, above-below}
 use Rattle.geometry.specs.declared.Nearest.{Nearest}
@@ -17,11 +18,6 @@ use Rattle.geometry.specs.Way.{offsetBy, NearBy}
 use Rattle.geometry.proofs.Core.{lies-beginning, exact-beginning, lies-end, exact-end, lies-between, exact-between}
 use Rattle.geometry.proofs.Exact.{exact-decides}
 use Rattle.geometry.proofs.Plane.{fore, aft, frame, dot-is}
-
--- by the value of a test
-pub by-cond : {A : Type 0} (P : A → Type 0) (t : Bool) {u v : A} → (t ≡ true → P u) → (t ≡ false → P v) → P (cond t u v)
-by-cond P true f g = f refl
-by-cond P false f g = g refl
 
 module _ (dx dy px py : ℤ) where
   -- the three cases, by the two sides of u·v

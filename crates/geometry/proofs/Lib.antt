@@ -1,10 +1,8 @@
-pub mod Coordinate
 pub mod Core
 pub mod Decide
 pub mod Exact
 pub mod Link
 pub mod Marks
-pub mod Move
 pub mod Permits
 pub mod Plane
 pub mod Spoiler

@@ -10,9 +10,9 @@ use native.Mathlib.Omega.{arith}
 use lib.IntN.{ℤ, pos}
 use lib.ListN.{getD}
 use Rattle.refusal.proofs.Plain.{no-decides, carry, decides-true, decides-unique}
-use Rattle.geometry.specs.Mark.{Marked}
+use Rattle.sample.specs.Mark.{Marked}
 use Rattle.geometry.specs.Near.{Near, Along, Passable, Permitted}
-use Rattle.geometry.specs.Samples.{Samples}
+use Rattle.sample.specs.Samples.{Samples}
 use Rattle.geometry.specs.Spoiler.{Clear}
 use Rattle.geometry.specs.Test.{permits}
 use Rattle.geometry.proofs.Spoiler.{permits-told}
@@ -43,11 +43,11 @@ permits-adjacent xs i e = decides-true _ (permits-told xs i (suc i) e) permitted
 -- the samples from i to j agree, and of their marks which of those strictly between are marked
 pub record Same (xs vs : Samples) (i j : ℕ) : Type 0 where
   pub across : (k : ℕ) → i ≤ k → k ≤ j → getD (xs .across) k (pos 0) ≡ getD (vs .across) k (pos 0)
-  pub upward : (k : ℕ) → i ≤ k → k ≤ j → getD (xs .upward) k (pos 0) ≡ getD (vs .upward) k (pos 0)
+  pub up : (k : ℕ) → i ≤ k → k ≤ j → getD (xs .up) k (pos 0) ≡ getD (vs .up) k (pos 0)
   pub marks : (k : ℕ) → i < k → k < j → Marked (xs .marks) k ↔ Marked (vs .marks) k
 
 pub same-back : {xs vs : Samples} {i j : ℕ} → Same xs vs i j → Same vs xs i j
-same-back h = record { across = λ k a b. sym (h .across k a b); upward = λ k a b. sym (h .upward k a b); marks = λ k a b. (h .marks k a b .1, h .marks k a b .0) }
+same-back h = record { across = λ k a b. sym (h .across k a b); up = λ k a b. sym (h .up k a b); marks = λ k a b. (h .marks k a b .1, h .marks k a b .0) }
 
 module _ (xs vs : Samples) (i j : ℕ) (h : Same xs vs i j) where
   pub passable-same : {e : ℕ} (k : ℕ) → i < k → k < j → Passable xs i j e k → Passable vs i j e k
@@ -56,7 +56,7 @@ module _ (xs vs : Samples) (i j : ℕ) (h : Same xs vs i j) where
       let r = le-of-lt b in
       let o : i ≤ j = le-trans l r in (
         λ q. p .0 (h .marks k a b .1 q),
-        rw (← h .across i (le-refl i) o, ← h .upward i (le-refl i) o, ← h .across j o (le-refl j), ← h .upward j o (le-refl j), ← h .across k l r, ← h .upward k l r) (p .1),
+        rw (← h .across i (le-refl i) o, ← h .up i (le-refl i) o, ← h .across j o (le-refl j), ← h .up j o (le-refl j), ← h .across k l r, ← h .up k l r) (p .1),
       )
 
   pub permitted-same : {e : ℕ} → Permitted xs i j e → Permitted vs i j e

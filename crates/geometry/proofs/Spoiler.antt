@@ -10,16 +10,15 @@ use native.Mathlib.Decide.{decLt}
 use native.Mathlib.Omega.{arith}
 use lib.ListN.{getD}
 use Rattle.refusal.specs.Check.{Decides}
-use Rattle.refusal.proofs.Plain.{yes-decides, no-decides, not-decided, by-equal, both-decided}
+use Rattle.refusal.proofs.Plain.{by-cond, yes-decides, no-decides, not-decided, by-equal, both-decided}
 use Rattle.geometry.specs.declared.Verdict.{Verdict}
 use Rattle.geometry.specs.declared.Verdict.the-variants.{Yes, No}
-use Rattle.geometry.specs.Mark.{Marked, marked}
+use Rattle.sample.specs.Mark.{Marked, marked}
 use Rattle.geometry.specs.Near.{Passable, Permitted}
-use Rattle.geometry.specs.Samples.{Samples}
+use Rattle.sample.specs.Samples.{Samples}
 use Rattle.geometry.specs.Spoiler.{Clear, Spoiler, Told, Says, isYes}
-use Rattle.geometry.specs.Sweep.{Ranged}
+use Rattle.sample.specs.Sweep.{Ranged}
 use Rattle.geometry.specs.Test.{lowest, judged, permits}
-use Rattle.geometry.proofs.Decide.{by-cond}
 use Rattle.geometry.proofs.Link.{decides-near}
 
 -- ---- the spoiler

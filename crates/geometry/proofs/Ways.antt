@@ -12,7 +12,7 @@ use mir.Val.{SFits, toZ, ofZ}
 use mir.Facts.{toZ-ofZ}
 use Rattle.algebra.specs.Parts.{sq}
 use Rattle.algebra.proofs.Parts.{size-add, size-sub, size-mul, size-fits, square-is}
-use Rattle.geometry.specs.Coordinate.{Coord}
+use Rattle.sample.specs.Coordinate.{Coord}
 use Rattle.geometry.specs.declared.Nearest.{Nearest}
 use Rattle.geometry.specs.declared.Nearest.the-variants.{Beginning, End, Between}
 use Rattle.geometry.specs.Nearest.{dot, cross, distanceFrom}
@@ -66,7 +66,7 @@ module _ (x y : ℤ) (h : natAbs x ≤ 65536) (g : natAbs y ≤ 65536) where
 
 module _ {dx dy px py : ℤ} (w : Way dx dy) (v : Way px py) where
   pub ways-back : (back dx ≡ dx) × (back dy ≡ dy) × (back px ≡ px) × (back py ≡ py)
-  ways-back = (handed-on dx (w .across), handed-on dy (w .upward), handed-on px (v .across), handed-on py (v .upward))
+  ways-back = (handed-on dx (w .across), handed-on dy (w .up), handed-on px (v .across), handed-on py (v .up))
     where
       handed-on : (z : ℤ) → natAbs z ≤ 32768 → back z ≡ z
       handed-on z h = toZ-ofZ (one-fits z (omega arith))
@@ -74,9 +74,9 @@ module _ {dx dy px py : ℤ} (w : Way dx dy) (v : Way px py) where
   pub products-fit : SFits w64 (px *ℤ dx) × SFits w64 (py *ℤ dy) × SFits w64 (px *ℤ dy) × SFits w64 (py *ℤ dx)
   products-fit = (
     product-fits px dx (v .across) (w .across),
-    product-fits py dy (v .upward) (w .upward),
-    product-fits px dy (v .across) (w .upward),
-    product-fits py dx (v .upward) (w .across),
+    product-fits py dy (v .up) (w .up),
+    product-fits px dy (v .across) (w .up),
+    product-fits py dx (v .up) (w .across),
   )
 
   pub dot-more : leZ (dot dx dy px py) (pos 0) ≡ false → T (nonNeg (dot dx dy px py))
@@ -84,7 +84,7 @@ module _ {dx dy px py : ℤ} (w : Way dx dy) (v : Way px py) where
 
   pub dot-size : natAbs (dot dx dy px py) ≤ 2147483648
   dot-size =
-      omega (arith, size-add (px *ℤ dx) (py *ℤ dy), product-size px dx (v .across) (w .across), product-size py dy (v .upward) (w .upward))
+      omega (arith, size-add (px *ℤ dx) (py *ℤ dy), product-size px dx (v .across) (w .across), product-size py dy (v .up) (w .up))
 
   pub dot-fits : SFits w64 (dot dx dy px py)
   dot-fits = size-fits (dot dx dy px py) (omega (arith, dot-size))
@@ -96,7 +96,7 @@ module _ {dx dy px py : ℤ} (w : Way dx dy) (v : Way px py) where
       rw (e .0, e .1, e .2, e .3, toZ-ofZ (products-fit .0), toZ-ofZ (products-fit .1), toZ-ofZ dot-fits) refl
 
   pub rest-size : (natAbs (px -ℤ dx) ≤ 65536) × (natAbs (py -ℤ dy) ≤ 65536)
-  rest-size = (omega (arith, size-sub px dx, v .across, w .across), omega (arith, size-sub py dy, v .upward, w .upward))
+  rest-size = (omega (arith, size-sub px dx, v .across, w .across), omega (arith, size-sub py dy, v .up, w .up))
 
   pub rest-fits : SFits w64 (px -ℤ dx) × SFits w64 (py -ℤ dy)
   rest-fits = (one-fits (px -ℤ dx) (rest-size .0), one-fits (py -ℤ dy) (rest-size .1))
@@ -108,7 +108,7 @@ module _ {dx dy px py : ℤ} (w : Way dx dy) (v : Way px py) where
 
   cross-size : natAbs (cross dx dy px py) ≤ 2147483648
   cross-size =
-      omega (arith, size-sub (px *ℤ dy) (py *ℤ dx), product-size px dy (v .across) (w .upward), product-size py dx (v .upward) (w .across))
+      omega (arith, size-sub (px *ℤ dy) (py *ℤ dx), product-size px dy (v .across) (w .up), product-size py dx (v .up) (w .across))
 
   pub cross-fits : SFits w64 (cross dx dy px py)
   cross-fits = size-fits (cross dx dy px py) (omega (arith, cross-size))
@@ -130,4 +130,4 @@ module _ {dx dy px py : ℤ} (w : Way dx dy) (v : Way px py) where
 pub bottom-size : {dx dy : ℤ} → Way dx dy → (px py : ℤ) (c : Nearest) → distanceFrom c dx dy px py .bottom ≤ 2147483648
 bottom-size w px py Beginning = omega arith
 bottom-size w px py End = omega arith
-bottom-size w px py Between = omega (arith, mul-le-mul (w .across) (w .across), mul-le-mul (w .upward) (w .upward))
+bottom-size w px py Between = omega (arith, mul-le-mul (w .across) (w .across), mul-le-mul (w .up) (w .up))

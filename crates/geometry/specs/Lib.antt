@@ -1,9 +1,5 @@
-pub mod Coordinate
-pub mod Mark
 pub mod Near
 pub mod Nearest
-pub mod Samples
 pub mod Spoiler
-pub mod Sweep
 pub mod Test
 pub mod Way

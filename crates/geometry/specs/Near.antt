@@ -4,8 +4,8 @@ use Prim.Native.Nat.{ℕ, _+_, _*_, _≤_, _<_}
 use lib.IntN.{ℤ, pos, _-ℤ_, _*ℤ_}
 use lib.ListN.{getD}
 use Rattle.algebra.specs.Parts.{sq}
-use Rattle.geometry.specs.Mark.{Marked}
-use Rattle.geometry.specs.Samples.{Samples}
+use Rattle.sample.specs.Mark.{Marked}
+use Rattle.sample.specs.Samples.{Samples}
 
 -- the squared length of r·(q - a) - s·(b - a)
 abbrev pub offset : ℤ → ℤ → ℤ → ℤ → ℤ → ℤ → ℕ → ℕ → ℕ
@@ -27,7 +27,7 @@ Along xs ys i j e k =
 
 -- that segment may pass over sample k: it is not marked, and near
 abbrev pub Passable : Samples → ℕ → ℕ → ℕ → ℕ → Type 0
-Passable xs i j e k = (Marked (xs .marks) k → ⊥) × Along (xs .across) (xs .upward) i j e k
+Passable xs i j e k = (Marked (xs .marks) k → ⊥) × Along (xs .across) (xs .up) i j e k
 
 -- and over each sample strictly between i and j; the marks of i and j do not count
 pub record Permitted (xs : Samples) (i j e : ℕ) : Type 0 where

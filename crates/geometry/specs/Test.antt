@@ -5,9 +5,9 @@ use lib.Dec.{leb}
 use lib.IntN.{ℤ}
 use Rattle.geometry.specs.declared.Verdict.{Verdict}
 use Rattle.geometry.specs.declared.Verdict.the-variants.{Yes, No}
-use Rattle.geometry.specs.Mark.{marked}
+use Rattle.sample.specs.Mark.{marked}
 use Rattle.geometry.specs.Nearest.{distance}
-use Rattle.geometry.specs.Samples.{Samples}
+use Rattle.sample.specs.Samples.{Samples}
 use Rattle.geometry.specs.Spoiler.{isYes}
 use Rattle.geometry.specs.Way.{way}
 
@@ -26,7 +26,7 @@ judged xs i j e =
     lowest
     (λ k.
     not (marked (xs .marks) k)
-    && reaches (way (xs .across) i j) (way (xs .upward) i j) (way (xs .across) i k) (way (xs .upward) i k) (e * e))
+    && reaches (way (xs .across) i j) (way (xs .up) i j) (way (xs .across) i k) (way (xs .up) i k) (e * e))
     (suc i) (j - suc i)
 
 -- whether it is yes: the stretch is permitted

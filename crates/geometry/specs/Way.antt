@@ -12,7 +12,7 @@ way xs i k = getD xs k (pos 0) -ℤ getD xs i (pos 0)
 -- a way between two samples in range
 pub record Way (dx dy : ℤ) : Type 0 where
   pub across : natAbs dx ≤ 32768
-  pub upward : natAbs dy ≤ 32768
+  pub up : natAbs dy ≤ 32768
 
 -- `offset`, of the ways (dx, dy) to the segment's end and (px, py) to the sample
 abbrev pub offsetBy : ℤ → ℤ → ℤ → ℤ → ℕ → ℕ → ℕ

@@ -1,75 +1,17 @@
-// Whether a coordinate and a mark are in range, and whether a stretch of samples may be drawn as one segment, in whole numbers.
+// Whether a stretch of samples may be drawn as one segment, in whole numbers.
 ghost use mathlib.Core.Path.{_≡_};
 ghost use Prim.Native.Nat.{_+_, _*_, _≤_, _<_};
 ghost use lib.IntN.{pos, natAbs};
 ghost use lib.ListN.{length, getD};
 ghost use Rattle.refusal.specs.Check.{Decides};
 ghost use Rattle.algebra.specs.Parts.{sq};
-ghost use Rattle.geometry.specs.Coordinate.{Coord, InRange, coordinateOk, coordinatesOk};
-ghost use Rattle.geometry.specs.Mark.{markOk, marksOk};
+ghost use Rattle.sample.specs.Coordinate.{Coord, InRange};
 ghost use Rattle.geometry.specs.Near.{Along};
 ghost use Rattle.geometry.specs.Nearest.{distanceFrom, distance};
-ghost use Rattle.geometry.specs.Samples.{samples};
+ghost use Rattle.sample.specs.Samples.{samples};
 ghost use Rattle.geometry.specs.Spoiler.{Clear, Told, Says};
-ghost use Rattle.geometry.specs.Sweep.{Ranged, FirstMarked, LastMarked};
+ghost use Rattle.sample.specs.Sweep.{Ranged};
 ghost use Rattle.geometry.specs.Way.{way, Way, NearBy};
-
-// The range of a coordinate.
-pub const COORDINATE_LEAST: i16 = -16384;
-
-pub const COORDINATE_MOST: i16 = 16384;
-
-// The mark of the first sample of a new boot; that of any other is 0.
-pub const MARKED: u8 = 1;
-
-// Whether a coordinate is in range.
-pub fn coordinate_ok(x: i16) -> bool
-    ensures { λ r. ⌜ r ≡ coordinateOk x ⌝ }
-{
-    if COORDINATE_LEAST <= x {
-        x <= COORDINATE_MOST
-    } else {
-        false
-    }
-}
-
-// Whether the first n coordinates of a buffer are in range.
-pub fn coordinates_ok(s: &[i16], n: usize) -> bool
-    requires { ⌜ n ≤ length (now s) ⌝ }
-    ensures { λ r. ⌜ r ≡ coordinatesOk (now (s .entry)) n ⌝ }
-{
-    let mut k = 0;
-    while k < n {
-        let x = s[k];
-        if !coordinate_ok(x) {
-            return false;
-        }
-        k += 1;
-    }
-    true
-}
-
-// Whether a mark is in range.
-pub fn mark_ok(mark: u8) -> bool
-    ensures { λ r. ⌜ r ≡ markOk mark ⌝ }
-{
-    mark <= MARKED
-}
-
-// Whether the first n marks of a buffer are in range.
-pub fn marks_ok(s: &[u8], n: usize) -> bool
-    requires { ⌜ n ≤ length (now s) ⌝ }
-    ensures { λ r. ⌜ r ≡ marksOk (now (s .entry)) n ⌝ }
-{
-    let mut k = 0;
-    while k < n {
-        if !mark_ok(s[k]) {
-            return false;
-        }
-        k += 1;
-    }
-    true
-}
 
 // The way from one sample to another, across or up.
 fn way(xs: &[i16], from: usize, to: usize) -> i64
@@ -178,42 +120,12 @@ pub fn judge(xs: &[i16], ys: &[i16], i: usize, j: usize, e: u32, from: usize, to
     Verdict::Yes
 }
 
-// The lowest marked sample of those from `from` on and before j, j where there is none.
-fn first_marked(marks: &[u8], from: usize, j: usize) -> usize
-    requires { ⌜ (from ≤ j) × (j < length (now marks)) ⌝ }
-    ensures { λ r. ⌜ FirstMarked (now (marks .entry)) from j r ⌝ }
-{
-    let mut k = from;
-    while k < j {
-        if marks[k] == MARKED {
-            return k;
-        }
-        k += 1;
-    }
-    j
-}
-
-// The highest marked sample before j, 0 where there is none.
-pub fn last_marked(marks: &[u8], j: usize) -> usize
-    requires { ⌜ j < length (now marks) ⌝ }
-    ensures { λ r. ⌜ LastMarked (now (marks .entry)) j r ⌝ }
-{
-    let mut q = j;
-    while 0 < q {
-        q -= 1;
-        if marks[q] == MARKED {
-            return q;
-        }
-    }
-    0
-}
-
 // Whether the stretch from sample i to sample j is permitted at tolerance e: yes, or no with the lowest sample that is marked or lies too far away.
 pub fn permitted(xs: &[i16], ys: &[i16], marks: &[u8], i: usize, j: usize, e: u32) -> Verdict
     requires { ⌜ (Ranged (samples (now xs) (now ys) (now marks)) (j + 1)) × (j < length (now marks)) × (i < j) × (e ≤ 65536) ⌝ }
     ensures { λ r. ⌜ Says (samples (now (xs .entry)) (now (ys .entry)) (now (marks .entry))) i j e r ⌝ }
 {
-    let first = first_marked(marks, i + 1, j);
+    let first = sample::first_marked(marks, i + 1, j);
     let verdict = judge(xs, ys, i, j, e, i + 1, first);
     let Verdict::Yes = verdict else {
         return verdict;

@@ -10,7 +10,8 @@ use lib.Dec.{eqb}
 use Rattle.refusal.specs.declared.Outcome.the-variants.{Done}
 use Rattle.refusal.specs.Number.{code}
 use Rattle.refusal.proofs.Rows.{code-one, first-taken, first-passed, first-has}
-use Rattle.geometry.specs.Samples.{Sample, Samples}
+use Rattle.sample.specs.declared.Sample.{Sample}
+use Rattle.sample.specs.Samples.{Samples}
 use Rattle.family.specs.Levels as Levels
 use Rattle.family.proofs.Checks.{room}
 use Rattle.family.proofs.Costs.{genuine-checked}
@@ -76,7 +77,7 @@ sound-marked {s} {e} {r} S (reads G t) h q o m =
 module _ (s : State) (S : Sound s) where
   -- check 5 holds
   stored-samples : StoredSamples (sizes (s .trace)) (s .lent .samples)
-  stored-samples q h = (S .ranged .across .each q h, S .ranged .upward .each q h, S .marks q h)
+  stored-samples q h = (S .ranged .across .each q h, S .ranged .up .each q h, S .marks q h)
 
   stored-cells : StoredCells (sizes (s .trace)) (s .lent .table)
   stored-cells =

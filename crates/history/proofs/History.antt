@@ -11,7 +11,8 @@ use borrow.Author.Tests.{ne-eqb}
 use Rattle.refusal.specs.Number.{number, code}
 use Rattle.refusal.proofs.Laws.{and-left, and-right}
 use Rattle.refusal.proofs.Rows.{by-outcome, numbered}
-use Rattle.geometry.specs.Samples.{Sample, Samples}
+use Rattle.sample.specs.declared.Sample.{Sample}
+use Rattle.sample.specs.Samples.{Samples}
 use Rattle.table.specs.Table.{at}
 use Rattle.costs.specs.Costs.{Named}
 use Rattle.trace.specs.declared.Trace.{Trace}
@@ -81,7 +82,7 @@ put-touched : (s e : State) (v n : ℕ) (x : Sample) (r : Changed) → Put (s .t
 put-touched s e v n x r P t k = record {
   setup = rw (t ∙ P .trace) refl;
   across = set-kept (x .across) (ap (λ (u : Samples). u .across) (P .samples));
-  upward = set-kept (x .upward) (ap (λ (u : Samples). u .upward) (P .samples));
+  up = set-kept (x .up) (ap (λ (u : Samples). u .up) (P .samples));
   marks = set-kept (x .mark) (ap (λ (u : Samples). u .marks) (P .samples));
   room = P .cells .same;
   cells = P .cells .other;
@@ -92,7 +93,7 @@ all-kept : {A : Type 0} {d : A} {P : ℕ → Type 0} {s : List A} → KeptBut d 
 all-kept = record { places = refl; others = λ q n. refl }
 
 not-touched : {P : ℕ → Type 0} {Q : ℕ → ℕ → ℕ → Type 0} {s e : State} → e ≡ s → Touched P Q s e
-not-touched {P} {Q} {s} z = subst (Touched P Q s) (sym z) (record { setup = refl; across = all-kept; upward = all-kept; marks = all-kept; room = refl; cells = λ a h. refl; ranks = refl })
+not-touched {P} {Q} {s} z = subst (Touched P Q s) (sym z) (record { setup = refl; across = all-kept; up = all-kept; marks = all-kept; room = refl; cells = λ a h. refl; ranks = refl })
 
 put-step-touched : {s e : State} {v : ℕ} {x : Sample} {r : Changed} → PutGives (s .trace) (s .lent) v x r (e .lent) → e .trace ≡ r .trace → e .ranks ≡ s .ranks
     → Touched (λ q. q ≡ v) (Named (s .trace .levels) v (heldWith (s .trace .held) v)) s e
@@ -108,7 +109,7 @@ touched-on : {P P′ R : ℕ → Type 0} {Q Q′ S : ℕ → ℕ → ℕ → Typ
 touched-on {e = e} f g x y T U = record {
   setup = U .setup ∙ ap (λ (a : Trace). holding a (e .trace .held)) (T .setup);
   across = kept-on f g (T .across) (U .across);
-  upward = kept-on f g (T .upward) (U .upward);
+  up = kept-on f g (T .up) (U .up);
   marks = kept-on f g (T .marks) (U .marks);
   room = U .room ∙ T .room;
   cells = λ a n. U .cells a (λ k i j q z. n k i j (y k i j q) (z ∙ ap (λ (c : Trace). at (c .capacity) k i j) (T .setup))) ∙ T .cells a (λ k i j q. n k i j (x k i j q));
@@ -165,9 +166,9 @@ puts-run {a} {b} {e} ranks (one-taken {c = c} {x = x} {xs = xs} {r = r} {q = q} 
     let run = subst (λ m. Run (state (r .trace) c ranks) (putsFrom m (take (q .added) xs)) (map changed (R .answers)) (state (q .trace) e ranks)) n (R .run) in
     record { answers = r ∷ R .answers; run = next (puts G refl refl) run; cells = rw (R .cells) refl }
 
-pub upload-run : {s e : State} {us : Samples} {r : Uploaded} → Step s e (upload us) (uploaded r) → AsPuts s e (zipped (us .across) (us .upward) (us .marks)) r
+pub upload-run : {s e : State} {us : Samples} {r : Uploaded} → Step s e (upload us) (uploaded r) → AsPuts s e (zipped (us .across) (us .up) (us .marks)) r
 upload-run {s} {e} {us} {r} (uploads G t k) =
-    by-lists {A = AsPuts s e (zipped (us .across) (us .upward) (us .marks)) r} G t k
+    by-lists {A = AsPuts s e (zipped (us .across) (us .up) (us .marks)) r} G t k
     (λ P z. rw z (puts-run (s .ranks) P))
     (λ n z. rw (n, z) (record { answers = []; run = none; cells = refl }))
 

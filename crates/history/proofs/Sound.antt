@@ -10,16 +10,19 @@ use lib.ListN.{length, getD, take, replicate, length-take, List·getD-append, Li
 use lib.Seq.{getD-take}
 use Rattle.refusal.proofs.Plain.{decided}
 use Rattle.refusal.proofs.Rows.{by-outcome}
-use Rattle.geometry.specs.Coordinate.{InRange}
-use Rattle.geometry.specs.Mark.{Mark}
-use Rattle.geometry.specs.Samples.{Sample, Samples}
-use Rattle.geometry.specs.Sweep.{Ranged}
+use Rattle.sample.specs.Coordinate.{InRange}
+use Rattle.sample.specs.Mark.{Mark}
+use Rattle.sample.specs.declared.Sample.{Sample}
+use Rattle.sample.specs.Samples.{Samples}
+use Rattle.sample.specs.Sweep.{Ranged}
 use Rattle.costs.proofs.Meaning.{put-costs}
 use Rattle.trace.specs.declared.Trace.{Trace}
 use Rattle.trace.specs.declared.Changed.{Changed}
 use Rattle.trace.specs.declared.Uploaded.{Uploaded}
-use Rattle.checks.specs.Numbers.{Sized, Tolerances, PutNumber}
-use Rattle.trace.specs.Calls.{sizes, Buffers, heldWith, Put, NotPut, PutGives, kept}
+use Rattle.sizes.specs.Setup.{Sized, Tolerances}
+use Rattle.checks.specs.Numbers.{PutNumber}
+use Rattle.sizes.specs.Setup.{kept}
+use Rattle.trace.specs.Calls.{sizes, Buffers, heldWith, Put, NotPut, PutGives}
 use Rattle.trace.specs.Upload.{zipped, notUploaded, Puts, UploadGives}
 use Rattle.trace.specs.Upload.Puts.{all-taken, one-refused, one-taken}
 use Rattle.checks.proofs.Decided.{lists-decided}
@@ -76,7 +79,7 @@ empty-sound m N tols b ranks p q g = record {
   few = p;
   small = q;
   held = zero-le;
-  ranged = record { across = none-held; upward = none-held };
+  ranged = record { across = none-held; up = none-held };
   marks = λ q l. absurd (omega arith);
   costs = λ k i j a d o h. absurd (omega arith);
   setup = ⊎-elim (λ e. inl (e, refl)) inr g;
@@ -123,7 +126,7 @@ puts-sound S (one-refused G h) = put-step-sound S G refl refl
 puts-sound S (one-taken G h P) = puts-sound (put-step-sound S G refl refl) P
 
 pub by-lists : {A : Type 0} {s e : State} {us : Samples} {r : Uploaded} → UploadGives (s .trace) (s .lent) us r (e .lent) us → e .trace ≡ r .trace → e .ranks ≡ s .ranks
-    → (Puts (s .trace) (s .lent) (zipped (us .across) (us .upward) (us .marks)) r (e .lent) → e ≡ state (r .trace) (e .lent) (s .ranks) → A)
+    → (Puts (s .trace) (s .lent) (zipped (us .across) (us .up) (us .marks)) r (e .lent) → e ≡ state (r .trace) (e .lent) (s .ranks) → A)
     → (r ≡ notUploaded (s .trace) → e ≡ s → A) → A
 by-lists {us = us} G t k taken none = elim (decided _ (lists-decided us)) [
   | yes o ↦ taken (G .puts o) (state-is t refl k)

@@ -6,8 +6,8 @@ use Prim.Native.Nat.{ℕ, suc, _+_, _-_, _≤_, _<_}
 use lib.Dec.{eqb}
 use lib.IntN.{pos}
 use lib.ListN.{length, getD, take}
-use Rattle.geometry.specs.Mark.{Marked}
-use Rattle.geometry.specs.Samples.{Sample}
+use Rattle.sample.specs.Mark.{Marked}
+use Rattle.sample.specs.declared.Sample.{Sample}
 use Rattle.family.specs.Levels as Levels
 use Rattle.table.specs.Table.{at, cell}
 use Rattle.costs.specs.Costs.{Permit, Named}
@@ -58,7 +58,7 @@ pub record KeptBut {A : Type 0} (z : A) (P : ℕ → Type 0) (s e : List A) : Ty
 pub record Touched (P : ℕ → Type 0) (Q : ℕ → ℕ → ℕ → Type 0) (s e : State) : Type 0 where
   pub setup : e .trace ≡ holding (s .trace) (e .trace .held)
   pub across : KeptBut (pos 0) P (s .lent .samples .across) (e .lent .samples .across)
-  pub upward : KeptBut (pos 0) P (s .lent .samples .upward) (e .lent .samples .upward)
+  pub up : KeptBut (pos 0) P (s .lent .samples .up) (e .lent .samples .up)
   pub marks : KeptBut 0 P (s .lent .samples .marks) (e .lent .samples .marks)
   pub room : length (e .lent .table) ≡ length (s .lent .table)
   pub cells : (a : ℕ) → ((k i j : ℕ) → Q k i j → a ≡ at (s .trace .capacity) k i j → ⊥) → getD (e .lent .table) a 0 ≡ getD (s .lent .table) a 0

@@ -11,7 +11,8 @@ use borrow.Author.Tests.{lt-ltb, eq-eqb}
 use Rattle.refusal.specs.declared.Outcome.{Outcome}
 use Rattle.refusal.specs.declared.Outcome.the-variants.{Done, Refused}
 use Rattle.refusal.proofs.Laws.{all-same}
-use Rattle.record.specs.Record.{word, signed, signedAt, counter, editionOk, spareOk, fieldsOk, recordOutcome, decodeOutcome, decodedBy, decodeOf}
+use Rattle.words.specs.Word.{word, long, signed, signedAt}
+use Rattle.record.specs.Record.{counter, editionOk, spareOk, fieldsOk, recordOutcome, decodeOutcome, decodedBy, decodeOf}
 use Rattle.record.specs.Pause.{recordBytes, pauseLineOf}
 use Rattle.record.proofs.Record.{decode-outcome}
 use Rattle.record.proofs.Pause.{file-good}
@@ -39,8 +40,8 @@ module _ (s : List ℕ) (i : ℕ) (h : i < length s / 16) where
   acrosses = fields 0 (omega arith) ∙ ap (signedAt s) (add-zero (16 * i))
 
   counters : counter (recordBytes s i) 0 ≡ counter s (16 * i)
-  unfolding counter
-  counters = rw (words 4 (omega arith), words 6 (omega arith))
+  unfolding counter long
+  counters = rw (words 4 (omega arith), words 6 (omega arith), add-assoc (16 * i) 4 2)
 
   spares : spareOk (recordBytes s i) 0 ≡ spareOk s (16 * i)
   unfolding spareOk

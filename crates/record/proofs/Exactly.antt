@@ -9,8 +9,8 @@ use lib.ListN.{length}
 use Rattle.refusal.specs.Check.{Decides}
 use Rattle.refusal.proofs.Plain.{by-equal, both-decided}
 use Rattle.refusal.proofs.Rows.{first-passed, first-is, first-none, first-later, first-has}
-use Rattle.geometry.specs.Coordinate.{coordinateOk}
-use Rattle.geometry.proofs.Coordinate.{coordinate-decided}
+use Rattle.sample.specs.Coordinate.{coordinateOk}
+use Rattle.sample.proofs.Coordinate.{coordinate-decided}
 use Rattle.record.specs.Record.{across, up}
 use Rattle.record.specs.Plain.{Placed, Marred, RecordGiven, DecodeGiven, FirstRefused, RecordsGiven, Misfit, FileGiven}
 use Rattle.record.proofs.Plain.{records-one}

@@ -15,7 +15,8 @@ use Rattle.refusal.specs.declared.Outcome.the-variants.{Done}
 use Rattle.refusal.specs.Check.{Decides}
 use Rattle.refusal.proofs.Laws.{and-yes, and-no-left, and-no-right}
 use Rattle.refusal.proofs.Plain.{decided, by-equal}
-use Rattle.record.specs.Record.{word, counter, boot, edition}
+use Rattle.words.specs.Word.{word, long}
+use Rattle.record.specs.Record.{counter, boot, edition}
 use Rattle.record.specs.Pause.{oldIncrease, difference, bothWithBoot, increase, increaseAt, pauseLineOf}
 use Rattle.record.specs.Restart.{restarted}
 use Rattle.record.specs.Plain.{Adds, Restarted}
@@ -146,8 +147,8 @@ module _ (s : List ℕ) (p q : ℕ) where
 -- ---- a file that is not refused: d is what the record after record i adds, exactly when the plain statement says so
 module _ (s : List ℕ) (bytes : (k : ℕ) → getD s k 0 < 256) where
   counter-below : (p : ℕ) → counter s p < 4294967296
-  unfolding counter word
-  counter-below p = omega (arith, bytes (p + 4), bytes (p + 4 + 1), bytes (p + 6), bytes (p + 6 + 1))
+  unfolding counter long word
+  counter-below p = omega (arith, bytes (p + 4), bytes (p + 4 + 1), bytes (p + 4 + 2), bytes (p + 4 + 2 + 1))
 
   pub line-adds : pauseLineOf s .outcome ≡ Done → (i : ℕ) → suc i < length s / 16 → (d : ℕ) → d ≡ increaseAt s (suc i) ↔ Adds s (16 * i) (16 * suc i) d
   unfolding increaseAt

@@ -9,7 +9,7 @@ use lib.Dec.{ltb}
 use lib.ListN.{length}
 use borrow.Author.Tests.{lt-ltb, le-ltb}
 use Rattle.refusal.specs.Check.{Decides}
-use Rattle.geometry.proofs.Decide.{by-cond}
+use Rattle.refusal.proofs.Plain.{by-cond}
 use Rattle.record.specs.Record.{boot, edition}
 use Rattle.record.specs.Restart.{restarted, markAt, markOf}
 use Rattle.record.specs.Plain.{Restarted}

@@ -18,8 +18,8 @@ use Rattle.refusal.specs.Check.{andThen, First}
 use Rattle.refusal.proofs.Laws.{and-left, and-right, and-fails, all-at, some-fails, need-done}
 use Rattle.refusal.proofs.Plain.{decided, by-equal, both-decided}
 use Rattle.refusal.proofs.Rows.{first-row, first-one, numbered}
-use Rattle.geometry.specs.Coordinate.{coordinateOk}
-use Rattle.geometry.proofs.Coordinate.{coordinate-decided}
+use Rattle.sample.specs.Coordinate.{coordinateOk}
+use Rattle.sample.proofs.Coordinate.{coordinate-decided}
 use Rattle.record.specs.Record.{across, up, rank, boot, edition, editionOk, spareOk, fieldsOk, recordOutcome, decodeOutcome, decodeOf}
 use Rattle.record.specs.Pause.{fileLengthOk, recordsOutcome, fileOutcome, pauseLineOf}
 use Rattle.record.specs.Plain.{SpareSet, EditionWrong, Marred, RecordGiven, DecodeGiven, FirstRefused, RecordsGiven, FileGiven}

@@ -5,7 +5,7 @@ use mathlib.Core.List.{List}
 use Prim.Native.Nat.{ℕ, _+_, _*_, _/_, _%_, _≤_, _<_}
 use lib.ListN.{length, getD}
 use Rattle.refusal.specs.Check.{First}
-use Rattle.geometry.specs.Coordinate.{Coord}
+use Rattle.sample.specs.Coordinate.{Coord}
 use Rattle.record.specs.Record.{across, up, counter, rank, boot, edition}
 
 -- both coordinates of the record at place p are in range

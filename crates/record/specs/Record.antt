@@ -1,27 +1,17 @@
 -- The house record: 16 bytes, low byte first; 0-1 across, 2-3 up, 4-7 pause counter, 8 rank, 9-10 boot, 11 edition, 12-15 spare. Assumes nothing.
-use Prim.Native.Nat.{ℕ, _+_, _*_, _-_}
+use Prim.Native.Nat.{ℕ, _+_}
 use mathlib.Core.Bool.{Bool, _&&_, cond}
 use mathlib.Core.List.{List}
-use lib.Dec.{leb, ltb, eqb}
-use lib.IntN.{ℤ, pos, negsuc}
+use lib.Dec.{leb, eqb}
+use lib.IntN.{ℤ, pos}
 use lib.ListN.{length, getD}
 use Rattle.refusal.specs.declared.Refusal.the-variants.{Coordinate, Length, Record}
 use Rattle.refusal.specs.declared.Outcome.{Outcome}
 use Rattle.refusal.specs.declared.Outcome.the-variants.{Done, Refused}
 use Rattle.refusal.specs.Check.{need, allBelow}
-use Rattle.geometry.specs.Coordinate.{coordinateOk}
+use Rattle.words.specs.Word.{word, long, signedAt}
+use Rattle.sample.specs.Coordinate.{coordinateOk}
 use Rattle.record.specs.declared.Decoded.{Decoded}
-
--- two bytes from place p
-unfoldable pub word : List ℕ → ℕ → ℕ
-word s p = getD s p 0 + 256 * getD s (p + 1) 0
-
--- 16 bits read as a signed number: below 32,768 itself, else itself less 65,536 (`negsuc n` is -(n + 1))
-unfoldable pub signed : ℕ → ℤ
-signed u = cond (ltb u 32768) (pos u) (negsuc (65535 - u))
-
-unfoldable pub signedAt : List ℕ → ℕ → ℤ
-signedAt s p = signed (word s p)
 
 -- the fields of the record at place p
 abbrev pub across : List ℕ → ℕ → ℤ
@@ -31,7 +21,7 @@ abbrev pub up : List ℕ → ℕ → ℤ
 up s p = signedAt s (p + 2)
 
 unfoldable pub counter : List ℕ → ℕ → ℕ
-counter s p = word s (p + 4) + 65536 * word s (p + 6)
+counter s p = long s (p + 4)
 
 abbrev pub rank : List ℕ → ℕ → ℕ
 rank s p = getD s (p + 8) 0

@@ -1,11 +1,13 @@
--- When a record comes after a restart, and its mark. Assumes nothing.
+-- When a record comes after a restart, its mark, and the sample that it gives. Assumes nothing.
 use Prim.Native.Nat.{ℕ, zero, suc, _*_, _/_}
 use mathlib.Core.Bool.{Bool, not, cond}
 use mathlib.Core.List.{List}
 use lib.Dec.{ltb, eqb}
 use lib.ListN.{length}
-use Rattle.record.specs.Record.{counter, boot}
-use Rattle.record.specs.Pause.{bothWithBoot}
+use Rattle.sample.specs.declared.Sample.{Sample}
+use Rattle.sample.specs.Samples.{sample}
+use Rattle.record.specs.Record.{counter, boot, decodeOf}
+use Rattle.record.specs.Pause.{recordBytes, bothWithBoot}
 
 -- a restart lies between the records at places p and q: of two of edition 1 the boot differs, of others the later counter is lower
 unfoldable pub restarted : List ℕ → ℕ → ℕ → Bool
@@ -19,3 +21,7 @@ markAt s (suc n) = cond (restarted s (16 * n) (16 * suc n)) 1 0
 -- and 0 where there is no such record
 unfoldable pub markOf : List ℕ → ℕ → ℕ
 markOf s i = cond (ltb i (length s / 16)) (markAt s i) 0
+
+-- its sample: the coordinates as decoded, zeros where there is no such record or it is refused, and the mark
+unfoldable pub sampleOf : List ℕ → ℕ → Sample
+sampleOf s i = sample (decodeOf (recordBytes s i) .across) (decodeOf (recordBytes s i) .up) (markOf s i)

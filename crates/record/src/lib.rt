@@ -2,14 +2,19 @@
 ghost use mathlib.Core.Path.{_≡_};
 ghost use Prim.Native.Nat.{_+_, _*_, _≤_, _<_};
 ghost use lib.ListN.{length};
-ghost use Rattle.geometry.specs.Coordinate.{coordinateOk};
-ghost use Rattle.record.specs.Record.{signed, signedAt, word, counter, editionOk, spareOk, fieldsOk, recordOutcome, decodeOutcome, decodeOf};
+ghost use Rattle.sample.specs.Coordinate.{coordinateOk};
+ghost use Rattle.words.specs.Word.{signedAt};
+ghost use Rattle.record.specs.Record.{counter, editionOk, spareOk, fieldsOk, recordOutcome, decodeOutcome, decodeOf};
 ghost use Rattle.record.specs.Pause.{fileLengthOk, recordBytes, recordsOutcome, fileOutcome, increase, increaseAt, pauseSum, pauseLineOf};
-ghost use Rattle.record.specs.Restart.{restarted as restartedAt, markOf};
-use geometry::MARKED;
-use geometry::coordinate_ok;
+ghost use Rattle.record.specs.Restart.{restarted as restartedAt, markOf, sampleOf};
 use refusal::Outcome;
 use refusal::Refusal;
+use sample::MARKED;
+use sample::Sample;
+use sample::coordinate_ok;
+use words::long_at;
+use words::signed_at;
+use words::word_at;
 
 // The bytes of a record, and the records of a file at most.
 pub const RECORD_BYTES: usize = 16;
@@ -26,8 +31,6 @@ const WITH_BOOT: u8 = 1;
 const UP: usize = 2;
 
 const PAUSE: usize = 4;
-
-const PAUSE_HIGH: usize = 6;
 
 const RANK: usize = 8;
 
@@ -56,35 +59,6 @@ pub struct PauseLine {
     pub sum: u64,
 }
 
-// Two bytes from place p, low first.
-fn word_at(s: &[u8], p: usize) -> u16
-    requires { ⌜ p + 1 < length (now s) ⌝ }
-    ensures { λ r. ⌜ r ≡ word (now (s .entry)) p ⌝ }
-{
-    let low = s[p];
-    let high = s[p + 1];
-    low as u16 + 256 * (high as u16)
-}
-
-// 16 bits as a signed number.
-pub fn from_bits(u: u16) -> i16
-    ensures { λ r. ⌜ r ≡ signed u ⌝ }
-{
-    if u < 32768 {
-        u as i16
-    } else {
-        -1 - ((65535 - u) as i16)
-    }
-}
-
-// Two bytes from place p as a signed number.
-fn signed_at(s: &[u8], p: usize) -> i16
-    requires { ⌜ p + 1 < length (now s) ⌝ }
-    ensures { λ r. ⌜ r ≡ signedAt (now (s .entry)) p ⌝ }
-{
-    from_bits(word_at(s, p))
-}
-
 // Whether the coordinate at place p is in range.
 fn in_range_at(s: &[u8], p: usize) -> bool
     requires { ⌜ p + 1 < length (now s) ⌝ }
@@ -98,9 +72,7 @@ fn counter_at(s: &[u8], p: usize) -> u32
     requires { ⌜ p + 16 ≤ length (now s) ⌝ }
     ensures { λ r. ⌜ r ≡ counter (now (s .entry)) p ⌝ }
 {
-    let low = word_at(s, p + PAUSE);
-    let high = word_at(s, p + PAUSE_HIGH);
-    low as u32 + 65536 * (high as u32)
+    long_at(s, p + PAUSE)
 }
 
 // Whether the edition of the record at place p is 0, without a boot number, or 1.
@@ -284,6 +256,20 @@ pub fn mark_of(file: &[u8], i: usize) -> u8
         return MARKED;
     }
     0
+}
+
+// The sample of record i of a file, marked where a restart lies before it; where there is no such record, or it is refused, its coordinates are 0.
+pub fn sample_of(file: &[u8], i: usize) -> Sample
+    ensures { λ r. ⌜ r ≡ sampleOf (now (file .entry)) i ⌝ }
+    ensures { λ r. ⌜ now (file .exit) ≡ now (file .entry) ⌝ }
+{
+    let decoded = decode(record_of(file, i));
+    let mark = mark_of(file, i);
+    Sample {
+        across: decoded.across,
+        up: decoded.up,
+        mark,
+    }
 }
 
 // What the record at place q adds after the one at place p: after a restart its counter, else the difference of two

@@ -1,13 +1,18 @@
 -- Tests and plain statements: when a test decides a statement. Assumes nothing.
 use mathlib.Core.Path.{_≡_, refl, sym, subst}
 use mathlib.Core.Logic.{_⊎_, inl, inr, ⊎-elim}
-use mathlib.Core.Bool.{Bool, true, false, _&&_, _||_, not, true≢false}
+use mathlib.Core.Bool.{Bool, true, false, _&&_, _||_, not, cond, true≢false}
 use Prim.Native.Nat.{ℕ, zero, suc, _≤_, _<_}
 use native.Mathlib.Nat.{not-suc-le-zero, le-step, le-of-suc-le-suc, lt-suc-self, eq-or-lt-of-le, not-le-of-lt}
 use native.Mathlib.Omega.{arith}
 use lib.Dec.{leb, ltb, eqb}
 use borrow.Author.Tests.{leb-true, leb-false, ltb-true, ltb-false, eqb-true, eqb-false, not-true, not-false}
 use Rattle.refusal.specs.Check.{allBelow, from-to, Decides}
+
+-- by the value of a test
+pub by-cond : {A : Type 0} (P : A → Type 0) (t : Bool) {u v : A} → (t ≡ true → P u) → (t ≡ false → P v) → P (cond t u v)
+by-cond P true f g = f refl
+by-cond P false f g = g refl
 
 pub yes-decides : {P : Type 0} → P → Decides P true
 yes-decides p = record { right = λ t. p; wrong = λ t. absurd (true≢false t) }

@@ -1,8 +1,8 @@
 -- The starred cases hold: each is worked out. Assumes nothing.
 use mathlib.Core.Path.{refl}
 use Rattle.refusal.specs.Check.{allBelow}
-use Rattle.geometry.specs.Coordinate.{coordinateOk, coordinatesOk}
-use Rattle.geometry.specs.Mark.{marked}
+use Rattle.sample.specs.Coordinate.{coordinateOk, coordinatesOk}
+use Rattle.sample.specs.Mark.{marked}
 use Rattle.geometry.specs.Nearest.{nearest}
 use Rattle.geometry.specs.Test.{reaches, lowest, judged, permits}
 use Rattle.family.specs.Family.{cells, value, below, least, least-by, via, hop, next, along, rank, total, segments}

@@ -10,9 +10,9 @@ use lib.ListN.{length, length-map}
 use Rattle.refusal.specs.Check.{Decides, from-to}
 use Rattle.refusal.proofs.Laws.{and-left, and-right}
 use Rattle.refusal.proofs.Plain.{yes-decides, both-decided, from-to-decided, by-less, by-test}
-use Rattle.geometry.specs.Coordinate.{coordinatesOk}
-use Rattle.geometry.specs.Samples.{Sample}
-use Rattle.geometry.proofs.Coordinate.{in-range}
+use Rattle.sample.specs.Coordinate.{coordinatesOk}
+use Rattle.sample.specs.declared.Sample.{Sample}
+use Rattle.sample.proofs.Coordinate.{in-range}
 use Rattle.geometry.proofs.Permits.{permitted-adjacent}
 use Rattle.family.specs.Family.{cells, rank, segments, total}
 use Rattle.family.specs.Lists.{none}
@@ -45,12 +45,12 @@ record Fit (s : List Sample) (tols : List ℕ) : Type 0 where
   decides : (k i j : ℕ) → 1 ≤ k → k ≤ length tols → i < j → j < length s → Decides (PermitOf s tols k i j) (permOf s tols k i j)
 
 abbrev fits : List Sample → List ℕ → Bool
-fits s tols = coordinatesOk (buffered s .across) (length s) && (coordinatesOk (buffered s .upward) (length s) && (from-to 1 256 (length s) && leb (length tols) 16))
+fits s tols = coordinatesOk (buffered s .across) (length s) && (coordinatesOk (buffered s .up) (length s) && (from-to 1 256 (length s) && leb (length tols) 16))
 
 fit : (s : List Sample) (tols : List ℕ) → fits s tols ≡ true → Fit s tols
 fit s tols h =
     let p = and-right (coordinatesOk (buffered s .across) (length s)) _ h in
-    let q = and-right (coordinatesOk (buffered s .upward) (length s)) _ p in
+    let q = and-right (coordinatesOk (buffered s .up) (length s)) _ p in
     let t = both-decided (from-to 1 256 (length s)) (leb (length tols) 16) (from-to-decided 1 256 (length s)) (by-test _ (length tols) 16 (λ u. u) (λ u. u)) .right q in
     record {
       some = t .0 .0;
@@ -58,7 +58,7 @@ fit s tols h =
       few = t .1;
       decides = permissions (buffered s) tols (length tols) (length s) (record {
         across = in-range (omega (arith, length-map s (λ (a : Sample). a .across))) (and-left _ _ h);
-        upward = in-range (omega (arith, length-map s (λ (a : Sample). a .upward))) (and-left _ _ p);
+        up = in-range (omega (arith, length-map s (λ (a : Sample). a .up))) (and-left _ _ p);
       });
     }
 

@@ -7,12 +7,15 @@ use lib.IntN.{ℤ, pos, negℤ}
 use lib.ListN.{length}
 use Rattle.refusal.specs.declared.Outcome.the-variants.{Done}
 use Rattle.geometry.specs.Near.{Permitted}
-use Rattle.geometry.specs.Samples.{Sample, Samples, sample, samples, sampleAt}
+use Rattle.sample.specs.declared.Sample.{Sample}
+use Rattle.sample.specs.Samples.{Samples, sample, samples, sampleAt}
 use Rattle.family.specs.Levels.{Minimal, Chosen, Cost, size, ranks}
 use Rattle.costs.specs.Costs.{Permit}
 use Rattle.record.specs.Pause.{pauseLineOf}
 use Rattle.trace.specs.declared.Trace.{Trace}
-use Rattle.checks.specs.Numbers.{Sized, Tolerances, Valid, LentSamples, LentTable, ReadNumber}
+use Rattle.sample.specs.Valid.{Valid}
+use Rattle.sizes.specs.Setup.{Sized, Tolerances}
+use Rattle.checks.specs.Numbers.{LentSamples, LentTable, ReadNumber}
 use Rattle.trace.specs.Calls.{sizes}
 
 -- a sample, across and up: at 13 4, and plain (minus 3) (pos 4) where a coordinate is below zero; with a mark, restart 20 0
@@ -30,7 +33,7 @@ minus n = negℤ (pos n)
 
 -- the buffers that hold the samples
 abbrev pub buffered : List Sample → Samples
-buffered s = samples (map (λ a. a .across) s) (map (λ a. a .upward) s) (map (λ a. a .mark) s)
+buffered s = samples (map (λ a. a .across) s) (map (λ a. a .up) s) (map (λ a. a .mark) s)
 
 -- the stretch (i, j) of the samples is permitted at level k; there are as many levels as tolerances
 abbrev pub PermitOf : List Sample → List ℕ → ℕ → ℕ → ℕ → Type 0

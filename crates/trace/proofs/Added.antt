@@ -10,7 +10,8 @@ use lib.ListN.{length, length-take, getD, take}
 use lib.Seq.{getD-set-same, getD-set-other}
 use Rattle.refusal.specs.declared.Refusal.the-variants.{Buffer}
 use Rattle.refusal.proofs.Plain.{decided}
-use Rattle.geometry.specs.Samples.{Sample, Samples, sample, sampleAt, store}
+use Rattle.sample.specs.declared.Sample.{Sample}
+use Rattle.sample.specs.Samples.{Samples, sample, sampleAt, store}
 use Rattle.costs.specs.Costs.{sum}
 use Rattle.costs.proofs.Tally.{sum-same}
 use Rattle.trace.specs.declared.Trace.{Trace}
@@ -27,11 +28,11 @@ use Rattle.trace.proofs.Formulas.{put-adds, added-cells}
 use Rattle.trace.proofs.Upload.{noSample}
 
 -- ---- one sample stored
-store-at : (xs : Samples) (v : ℕ) (x : Sample) → (v < length (xs .across)) × (v < length (xs .upward)) × (v < length (xs .marks)) → sampleAt (store xs v x) v ≡ x
-store-at xs v x h = rw (getD-set-same (xs .across) v (x .across) (pos 0) (h .0), getD-set-same (xs .upward) v (x .upward) (pos 0) (h .1), getD-set-same (xs .marks) v (x .mark) 0 (h .2))
+store-at : (xs : Samples) (v : ℕ) (x : Sample) → (v < length (xs .across)) × (v < length (xs .up)) × (v < length (xs .marks)) → sampleAt (store xs v x) v ≡ x
+store-at xs v x h = rw (getD-set-same (xs .across) v (x .across) (pos 0) (h .0), getD-set-same (xs .up) v (x .up) (pos 0) (h .1), getD-set-same (xs .marks) v (x .mark) 0 (h .2))
 
 store-other : (xs : Samples) (v q : ℕ) (x : Sample) → (q ≡ v → ⊥) → sampleAt (store xs v x) q ≡ sampleAt xs q
-store-other xs v q x n = rw (getD-set-other (xs .across) v q (x .across) (pos 0) n, getD-set-other (xs .upward) v q (x .upward) (pos 0) n, getD-set-other (xs .marks) v q (x .mark) 0 n)
+store-other xs v q x n = rw (getD-set-other (xs .across) v q (x .across) (pos 0) n, getD-set-other (xs .up) v q (x .up) (pos 0) n, getD-set-other (xs .marks) v q (x .mark) 0 n)
 
 -- ---- a sum, from its first term
 sum-first : (n : ℕ) (f : ℕ → ℕ) → sum (suc n) f ≡ f 0 + sum n (λ p. f (suc p))
@@ -76,7 +77,7 @@ puts-leave {a} {b} {e} (one-taken {c = c} {x = x} {xs = xs} {r = r} {q = q} G h 
     added L A (suc p) l = rw (let s : a .held + suc p ≡ a .held + 1 + p = omega arith in s) (L .added p (omega arith))
 
 -- ---- and of the lists
-pub upload-leaves : (a : Trace) (b : Buffers) (us : Samples) (r : Uploaded) (e : Buffers) (us′ : Samples) → UploadGives a b us r e us′ → Leaves a b (zipped (us .across) (us .upward) (us .marks)) r e
+pub upload-leaves : (a : Trace) (b : Buffers) (us : Samples) (r : Uploaded) (e : Buffers) (us′ : Samples) → UploadGives a b us r e us′ → Leaves a b (zipped (us .across) (us .up) (us .marks)) r e
 upload-leaves a b us r e us′ G = elim (decided _ (lists-decided us)) [
   | yes o ↦ puts-leave (G .puts o)
   | no n ↦ let P = G .unequal n in rw (P .0, P .1) (leaves-none a b _ (Stop.Refused Buffer))
@@ -92,7 +93,7 @@ firsts-zipped (suc q) (x ∷ xs) (y ∷ ys) (m ∷ ms) = ap (λ zs. sample x y m
 
 firsts-length : (q : ℕ) (us : Samples) → OneLength us → OneLength (firsts q us)
 firsts-length q us o = (
-  rw (length-take q (us .across), length-take q (us .upward), o .0) refl,
+  rw (length-take q (us .across), length-take q (us .up), o .0) refl,
   rw (length-take q (us .across), length-take q (us .marks), o .1) refl,
 )
 
@@ -107,7 +108,7 @@ upload-firsts a b us r e us′ G = elim (decided _ (lists-decided us)) [
   | yes o ↦
       record {
         unequal = λ n. absurd (n (firsts-length (r .added) us o));
-        puts = λ p. rw (firsts-zipped (r .added) (us .across) (us .upward) (us .marks)) (puts-firsts (G .puts o));
+        puts = λ p. rw (firsts-zipped (r .added) (us .across) (us .up) (us .marks)) (puts-firsts (G .puts o));
         lists = refl;
       }
   | no n ↦ let P = G .unequal n in rw (P .0, P .1) (record { unequal = λ m. absurd (m (refl, refl)); puts = λ p. all-taken; lists = refl })

@@ -9,8 +9,9 @@ use Rattle.refusal.specs.declared.Outcome.{Outcome}
 use Rattle.refusal.specs.declared.Outcome.the-variants.{Done, Refused}
 use Rattle.refusal.specs.Number.{code}
 use Rattle.refusal.proofs.Rows.{numbered, number-one}
-use Rattle.geometry.specs.Mark.{Mark}
-use Rattle.geometry.specs.Samples.{Sample, Samples, store}
+use Rattle.sample.specs.Mark.{Mark}
+use Rattle.sample.specs.declared.Sample.{Sample}
+use Rattle.sample.specs.Samples.{Samples, store}
 use Rattle.family.specs.Fine.{Fine}
 use Rattle.family.proofs.Local.{Without}
 use Rattle.table.specs.Table.{cell}
@@ -102,13 +103,13 @@ put-keeps {a} {b} {e} {v} {x} h P =
         tolerances = p .0 .tolerances;
         lent = (
           rw (length-set (s .across) v (x .across)) (p .0 .lent .0),
-          rw (length-set (s .upward) v (x .upward)) (p .0 .lent .1),
+          rw (length-set (s .up) v (x .up)) (p .0 .lent .1),
           rw (length-set (s .marks) v (x .mark)) (p .0 .lent .2),
         );
         held = z .4;
         stored = λ q l. (
           A .ready .ranged .across .each q l,
-          A .ready .ranged .upward .each q l,
+          A .ready .ranged .up .each q l,
           set-each 0 Mark (s .marks) v _ (x .mark) (z .3) (A .ready .marks) (p .2 .2) (λ q l d. p .0 .stored q (others q l d) .2) q l,
         );
       },

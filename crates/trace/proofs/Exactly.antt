@@ -7,11 +7,14 @@ use native.Mathlib.Omega.{arith}
 use lib.ListN.{length, getD}
 use Rattle.refusal.specs.Check.{First}
 use Rattle.refusal.proofs.Rows.{numbered, first-is, first-later, first-has, Later}
-use Rattle.geometry.specs.Samples.{Sample, Samples}
+use Rattle.sample.specs.declared.Sample.{Sample}
+use Rattle.sample.specs.Samples.{Samples}
 use Rattle.trace.specs.declared.Trace.{Trace}
 use Rattle.trace.specs.declared.Uploaded.{Uploaded}
-use Rattle.checks.specs.Numbers.{Valid, LentSamples, LentTable, StoredSamples, StoredCells, Good, PlaceNumber, PutNumber, OneLength}
-use Rattle.checks.proofs.Decided.{lent-table, stored-decided, sample-decided}
+use Rattle.sample.specs.Valid.{Valid}
+use Rattle.checks.specs.Numbers.{LentSamples, LentTable, StoredSamples, StoredCells, Good, PlaceNumber, PutNumber, OneLength}
+use Rattle.sample.proofs.Decided.{sample-decided}
+use Rattle.checks.proofs.Decided.{lent-table, stored-decided}
 use Rattle.trace.specs.Calls.{sizes, Buffers, holding}
 use Rattle.trace.specs.Upload.{stopped, zipped, Puts, UploadGives}
 use Rattle.trace.specs.Upload.Puts.{all-taken, one-refused, one-taken}
@@ -109,12 +112,12 @@ pub record UploadRows (a : Trace) (b : Buffers) (us : Samples) (r : Uploaded) : 
   -- of others 1 to 5 as put's
   pub trace : OneLength us → 0 < length (us .across) → TraceRows (sizes a) (LentSamples (sizes a) (b .samples) × LentTable (sizes a) (b .table)) (StoredSamples (sizes a) (b .samples) × StoredCells (sizes a) (b .table)) (stopped (r .stop))
   -- and then 6, 7 and 0
-  pub samples : OneLength us → Passed (sizes a) (b .samples) × PassedTable (sizes a) (b .table) → StopRows a (zipped (us .across) (us .upward) (us .marks)) r
+  pub samples : OneLength us → Passed (sizes a) (b .samples) × PassedTable (sizes a) (b .table) → StopRows a (zipped (us .across) (us .up) (us .marks)) r
 
 pub upload-rows : (a : Trace) (b : Buffers) (us : Samples) (r : Uploaded) (e : Buffers) (us′ : Samples) → UploadGives a b us r e us′ → UploadRows a b us r
 upload-rows a b us r e us′ G = record {
   unequal = λ n. rw (G .unequal n .0) (refl, refl);
-  empty = λ o z. no-samples (G .puts o) (zipped-length (us .across) (us .upward) (us .marks) o ∙ z);
-  trace = λ o l. first-sample (G .puts o) (omega (arith, zipped-length (us .across) (us .upward) (us .marks) o));
+  empty = λ o z. no-samples (G .puts o) (zipped-length (us .across) (us .up) (us .marks) o ∙ z);
+  trace = λ o l. first-sample (G .puts o) (omega (arith, zipped-length (us .across) (us .up) (us .marks) o));
   samples = λ o p. stop-rows p (G .puts o);
 }

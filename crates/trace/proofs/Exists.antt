@@ -11,10 +11,11 @@ use Rattle.refusal.proofs.Plain.{decided}
 use Rattle.refusal.proofs.Rows.{by-outcome}
 use Rattle.geometry.specs.declared.Verdict.{Verdict}
 use Rattle.geometry.specs.declared.Verdict.the-variants as Verdict
-use Rattle.geometry.specs.Samples.{Sample, Samples, store}
+use Rattle.sample.specs.declared.Sample.{Sample}
+use Rattle.sample.specs.Samples.{Samples, store}
 use Rattle.geometry.specs.Spoiler.{Says}
 use Rattle.geometry.specs.Test.{judged}
-use Rattle.geometry.proofs.Coordinate.{fewer-ranged}
+use Rattle.sample.proofs.Coordinate.{fewer-ranged}
 use Rattle.geometry.proofs.Spoiler.{judged-says}
 use Rattle.costs.specs.Costs.{named}
 use Rattle.costs.specs.Walk.{perm}
@@ -33,7 +34,8 @@ use Rattle.checks.specs.Numbers.{StartNumber, PutNumber, AskNumber, ReadNumber}
 use Rattle.trace.specs.Calls.{sizes, emptyTrace, noTrace, StartGives, Buffers, buffers, heldWith, holding, PutGives, AskGives, ReadGives}
 use Rattle.trace.specs.Upload.{uploaded, zipped, Puts, notUploaded, UploadGives}
 use Rattle.trace.specs.Upload.Puts.{all-taken, one-refused, one-taken}
-use Rattle.checks.specs.Rows.{setupOutcome, putOutcome, askOutcome, readOutcome}
+use Rattle.sizes.specs.Rows.{setupOutcome}
+use Rattle.checks.specs.Rows.{putOutcome, askOutcome, readOutcome}
 use Rattle.checks.proofs.Decided.{lists-decided}
 use Rattle.checks.proofs.Numbers.{start-number, put-number, ask-number, read-number}
 use Rattle.checks.proofs.Passed.{ask-passed, read-passed, in-range}
@@ -75,7 +77,7 @@ puts-some a b (x ∷ xs) =
 
 pub upload-some : (a : Trace) (b : Buffers) (us : Samples) → (r : Uploaded) × (e : Buffers) × UploadGives a b us r e us
 upload-some a b us = elim (decided _ (lists-decided us)) [
-  | yes o ↦ let w = puts-some a b (zipped (us .across) (us .upward) (us .marks)) in (w .0, w .1, record { unequal = λ n. absurd (n o); puts = λ p. w .2; lists = refl })
+  | yes o ↦ let w = puts-some a b (zipped (us .across) (us .up) (us .marks)) in (w .0, w .1, record { unequal = λ n. absurd (n o); puts = λ p. w .2; lists = refl })
   | no n ↦ (notUploaded a, b, record { unequal = λ p. (refl, refl); puts = λ o. absurd (n o); lists = refl })
 ]
 

@@ -3,7 +3,7 @@ use mathlib.Core.Path.{_≡_, sym, ap, subst, _∙_}
 use Prim.Native.Nat.{ℕ, _+_, _-_, _*_, _<_}
 use native.Mathlib.Omega.{arith}
 use Rattle.refusal.specs.declared.Outcome.the-variants.{Done}
-use Rattle.geometry.specs.Samples.{Sample}
+use Rattle.sample.specs.declared.Sample.{Sample}
 use Rattle.costs.proofs.Tally.{named-formula, named-add}
 use Rattle.trace.specs.declared.Trace.{Trace}
 use Rattle.trace.specs.declared.Changed.{Changed}

@@ -8,9 +8,11 @@ use native.Mathlib.Omega.{arith}
 use lib.IntN.{ℤ, pos}
 use lib.ListN.{length, length-set, getD, set}
 use lib.Seq.{getD-set-same, getD-set-other}
-use Rattle.geometry.specs.Coordinate.{Coord, InRange}
-use Rattle.geometry.specs.Samples.{Sample, Samples}
-use Rattle.checks.specs.Numbers.{Tolerances, PutNumber}
+use Rattle.sample.specs.Coordinate.{Coord, InRange}
+use Rattle.sample.specs.declared.Sample.{Sample}
+use Rattle.sample.specs.Samples.{Samples}
+use Rattle.sizes.specs.Setup.{Tolerances}
+use Rattle.checks.specs.Numbers.{PutNumber}
 use Rattle.checks.proofs.Passed.{put-passed}
 use Rattle.costs.specs.Walk.{Rising}
 use Rattle.costs.proofs.Exit.{put-steps}
@@ -50,7 +52,7 @@ put-ready a xs t v x h =
       rising = rising (P .tolerances);
       ranged = record {
         across = put-range (xs .across) v n (x .across) there (le-trans room (P .lent .0)) (c .0) (λ q l d. P .stored q (others q l d) .0);
-        upward = put-range (xs .upward) v n (x .upward) there (le-trans room (P .lent .1)) (c .1) (λ q l d. P .stored q (others q l d) .1);
+        up = put-range (xs .up) v n (x .up) there (le-trans room (P .lent .1)) (c .1) (λ q l d. P .stored q (others q l d) .1);
       };
       marks = le-trans room (P .lent .2);
       room = p .1 .room;

@@ -12,7 +12,8 @@ use Rattle.refusal.specs.Number.{code}
 use Rattle.refusal.proofs.Plain.{decided}
 use Rattle.refusal.proofs.Rows.{numbered, number-one, code-one, by-outcome}
 use Rattle.geometry.specs.Near.{Passable}
-use Rattle.geometry.specs.Samples.{Sample, Samples}
+use Rattle.sample.specs.declared.Sample.{Sample}
+use Rattle.sample.specs.Samples.{Samples}
 use Rattle.geometry.specs.Spoiler.{Spoiler}
 use Rattle.geometry.proofs.Spoiler.{spoiler-one, spoiled}
 use Rattle.costs.specs.Costs.{Permit}

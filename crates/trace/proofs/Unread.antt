@@ -12,7 +12,8 @@ use Rattle.refusal.specs.declared.Refusal.{Refusal}
 use Rattle.refusal.specs.declared.Outcome.the-variants.{Done, Refused}
 use Rattle.refusal.proofs.Plain.{decided}
 use Rattle.refusal.proofs.Rows.{first-same, first-unless}
-use Rattle.geometry.specs.Samples.{Sample, Samples, sampleAt, store}
+use Rattle.sample.specs.declared.Sample.{Sample}
+use Rattle.sample.specs.Samples.{Samples, sampleAt, store}
 use Rattle.geometry.proofs.Spoiler.{spoiler-carried}
 use Rattle.geometry.proofs.Permits.{Same, same-back, passable-same, permitted-same, permits-same}
 use Rattle.family.specs.Fine.{Checked}
@@ -30,7 +31,9 @@ use Rattle.trace.specs.declared.Uploaded.{Uploaded}
 use Rattle.trace.specs.declared.Asked.{Asked}
 use Rattle.trace.specs.declared.Asked.the-variants as Asked
 use Rattle.trace.specs.declared.Levels.{Levels}
-use Rattle.checks.specs.Numbers.{Tolerances, Valid, LentSamples, LentTable, StoredSamples, StoredCells, TraceNumber, PutNumber, ReadNumber}
+use Rattle.sample.specs.Valid.{Valid}
+use Rattle.sizes.specs.Setup.{Tolerances}
+use Rattle.checks.specs.Numbers.{LentSamples, LentTable, StoredSamples, StoredCells, TraceNumber, PutNumber, ReadNumber}
 use Rattle.trace.specs.Calls.{sizes, Buffers, heldWith, Put, PutGives, asked, Says, AskGives, ReadGives}
 use Rattle.trace.specs.Upload.{Puts, UploadGives}
 use Rattle.trace.specs.Upload.Puts.{all-taken, one-refused, one-taken}
@@ -62,8 +65,8 @@ Agree m tols tols′ = (l : ℕ) → l < m → getD tols l 0 ≡ getD tols′ l 
 -- what is said of each sample held is said alike, and so is what is said of each cell
 stored-samples : {n : ℕ} {xs us : Samples} → AlikeSamples n xs us → ((q : ℕ) → q < n → Valid (sampleAt xs q)) ↔ ((q : ℕ) → q < n → Valid (sampleAt us q))
 stored-samples X = (
-  λ p q l. rw (X .across .each q l, X .upward .each q l, X .marks .each q l) at (p q l),
-  λ p q l. rw (X .across .each q l, X .upward .each q l, X .marks .each q l) (p q l),
+  λ p q l. rw (X .across .each q l, X .up .each q l, X .marks .each q l) at (p q l),
+  λ p q l. rw (X .across .each q l, X .up .each q l, X .marks .each q l) (p q l),
 )
 
 stored-cells : {N m n : ℕ} {t u : List ℕ} → AlikeCells N m n t u → Checked (cell t N) m n ↔ Checked (cell u N) m n
@@ -86,7 +89,7 @@ module _ (a : Trace) (tols : List ℕ) (agree : Agree (a .levels) (a .tolerances
 
   -- the buffers are as long
   lent-carried : {xs us : Samples} → AlikeSamples (a .held) xs us → LentSamples (sizes a) xs ↔ LentSamples (sizes a) us
-  lent-carried X = (λ p. rw (X .across .length, X .upward .length, X .marks .length) at p, λ p. rw (X .across .length, X .upward .length, X .marks .length) p)
+  lent-carried X = (λ p. rw (X .across .length, X .up .length, X .marks .length) at p, λ p. rw (X .across .length, X .up .length, X .marks .length) p)
 
   -- without a table
   samples-carried : {xs us : Samples} {R : Type 0} {k : ℕ} → AlikeSamples (a .held) xs us
@@ -113,7 +116,7 @@ module _ (a : Trace) (tols : List ℕ) (agree : Agree (a .levels) (a .tolerances
 samples-same : {n : ℕ} {xs us : Samples} (i j : ℕ) → j < n → AlikeSamples n xs us → Same xs us i j
 samples-same i j h X = record {
   across = λ q a b. X .across .each q (omega arith);
-  upward = λ q a b. X .upward .each q (omega arith);
+  up = λ q a b. X .up .each q (omega arith);
   marks = λ q a b. let e = X .marks .each q (omega arith) in (λ m. sym e ∙ m, λ m. e ∙ m);
 }
 
@@ -155,7 +158,7 @@ module _ (a : Trace) (tols : List ℕ) (agree : Agree (a .levels) (a .tolerances
       let s = b .samples in
       let X : AlikeSamples n (store s v x) (store (d .samples) v x) = record {
         across = set-alike (x .across) (B .samples .across) (omega (arith, R .ranged .across .held, length-set (s .across) v (x .across))) others;
-        upward = set-alike (x .upward) (B .samples .upward) (omega (arith, R .ranged .upward .held, length-set (s .upward) v (x .upward))) others;
+        up = set-alike (x .up) (B .samples .up) (omega (arith, R .ranged .up .held, length-set (s .up) v (x .up))) others;
         marks = set-alike (x .mark) (B .samples .marks) (omega (arith, R .marks)) others;
       } in
       record {

@@ -16,7 +16,8 @@ use Rattle.refusal.specs.declared.Outcome.{Outcome}
 use Rattle.refusal.specs.declared.Outcome.the-variants.{Done, Refused}
 use Rattle.refusal.specs.Check.{unless, andThen, Decides}
 use Rattle.refusal.proofs.Rows.{by-outcome}
-use Rattle.geometry.specs.Samples.{Sample, Samples, sample, samples, sampleAt}
+use Rattle.sample.specs.declared.Sample.{Sample}
+use Rattle.sample.specs.Samples.{Samples, sample, samples, sampleAt}
 use Rattle.trace.specs.declared.Trace.{Trace}
 use Rattle.trace.specs.declared.Changed.{Changed}
 use Rattle.trace.specs.declared.Stop.the-variants as Stop
@@ -56,7 +57,7 @@ module _ (a : Trace) (b : Buffers) (us : Samples) where
   before = uploadOutcome (sizes a) (b .samples) (b .table) (lengths us)
 
   abbrev list : List Sample
-  list = zipped (us .across) (us .upward) (us .marks)
+  list = zipped (us .across) (us .up) (us .marks)
 
   abbrev row : Bool → Bool → Outcome
   row one none = andThen (unless one Buffer) (cond none Done (traceOutcome (sizes a) (b .samples) (b .table)))
@@ -77,7 +78,7 @@ module _ (a : Trace) (b : Buffers) (us : Samples) where
       by true false d e f h = record {
         unequal = λ n. absurd (n (d .right refl));
         puts = λ o.
-            let some : 0 < length list = omega (arith, zipped-length (us .across) (us .upward) (us .marks) o, f refl) in
+            let some : 0 < length list = omega (arith, zipped-length (us .across) (us .up) (us .marks) o, f refl) in
             rw (drop-cons list 0 noSample some) (one-refused (refused-gives {v = a .held} {o = Refused why} (put-stopped (sizes a) (b .samples) (b .table) (a .held) (getD list 0 noSample) h) refl) refl);
         lists = refl;
       }
@@ -96,7 +97,7 @@ module _ (a : Trace) (b : Buffers) (us : Samples) where
 -- ---- a put leaves every buffer as long as it was
 pub record SameRoom (b e : Buffers) : Type 0 where
   pub across : length (e .samples .across) ≡ length (b .samples .across)
-  pub upward : length (e .samples .upward) ≡ length (b .samples .upward)
+  pub up : length (e .samples .up) ≡ length (b .samples .up)
   pub marks : length (e .samples .marks) ≡ length (b .samples .marks)
   pub table : length (e .table) ≡ length (b .table)
 
@@ -108,14 +109,14 @@ put-room {b = b} {v = v} {x = x} {r = r} G =
     let P = G .done d in
     record {
       across = rw (P .samples) (length-set (s .across) v (x .across));
-      upward = rw (P .samples) (length-set (s .upward) v (x .upward));
+      up = rw (P .samples) (length-set (s .up) v (x .up));
       marks = rw (P .samples) (length-set (s .marks) v (x .mark));
       table = P .cells .same;
     })
-    (λ w h. let e = G .refused w h .lent in record { across = rw e; upward = rw e; marks = rw e; table = rw e })
+    (λ w h. let e = G .refused w h .lent in record { across = rw e; up = rw e; marks = rw e; table = rw e })
 
 room-on : {b d e : Buffers} → SameRoom b d → SameRoom d e → SameRoom b e
-room-on R S = record { across = S .across ∙ R .across; upward = S .upward ∙ R .upward; marks = S .marks ∙ R .marks; table = S .table ∙ R .table }
+room-on R S = record { across = S .across ∙ R .across; up = S .up ∙ R .up; marks = S .marks ∙ R .marks; table = S .table ∙ R .table }
 
 -- ---- on its way: i samples are put with so many cells, and from a and b they led to c and d. Whatever the other samples then lead to, all of them lead to
 abbrev more : ℕ → ℕ → Uploaded → Uploaded
@@ -133,7 +134,7 @@ underway-none h = record {
   leads = λ q e P. rw (zero-add (q .added), zero-add (q .cells)) P;
   within = omega arith;
   few = omega arith;
-  room = record { across = refl; upward = refl; marks = refl; table = refl };
+  room = record { across = refl; up = refl; marks = refl; table = refl };
   ready = h;
 }
 

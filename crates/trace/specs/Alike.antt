@@ -4,7 +4,7 @@ use mathlib.Core.List.{List}
 use Prim.Native.Nat.{ℕ, _≤_, _<_}
 use lib.IntN.{pos}
 use lib.ListN.{length, getD}
-use Rattle.geometry.specs.Samples.{Samples}
+use Rattle.sample.specs.Samples.{Samples}
 use Rattle.table.specs.Table.{cell}
 use Rattle.trace.specs.declared.Trace.{Trace}
 use Rattle.trace.specs.declared.Changed.{Changed}
@@ -26,7 +26,7 @@ pub record AlikePlaces {A : Type 0} (z : A) (n : ℕ) (s u : List A) : Type 0 wh
 -- those of coordinates and marks
 pub record AlikeSamples (n : ℕ) (xs us : Samples) : Type 0 where
   pub across : AlikePlaces (pos 0) n (xs .across) (us .across)
-  pub upward : AlikePlaces (pos 0) n (xs .upward) (us .upward)
+  pub up : AlikePlaces (pos 0) n (xs .up) (us .up)
   pub marks : AlikePlaces 0 n (xs .marks) (us .marks)
 
 -- tables of one length with the same cells of stretches i < j < n, at levels 1 to m

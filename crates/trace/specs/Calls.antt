@@ -9,9 +9,10 @@ use Rattle.refusal.specs.declared.Refusal.{Refusal}
 use Rattle.refusal.specs.declared.Outcome.the-variants.{Done, Refused}
 use Rattle.refusal.specs.Number.{number, code}
 use Rattle.geometry.specs.Near.{Passable, Permitted}
-use Rattle.geometry.specs.Samples.{Sample, Samples, store}
+use Rattle.sample.specs.declared.Sample.{Sample}
+use Rattle.sample.specs.Samples.{Samples, store}
 use Rattle.geometry.specs.Spoiler.{Spoiler}
-use Rattle.checks.specs.declared.Sizes.{Sizes}
+use Rattle.sizes.specs.declared.Sizes.{Sizes}
 use Rattle.checks.specs.Numbers.{StartNumber, PutNumber, AskNumber, ReadNumber}
 use Rattle.costs.specs.Costs.{Permit, CellsWritten, named}
 use Rattle.readout.specs.Read.{RanksRead}

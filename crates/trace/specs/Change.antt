@@ -4,8 +4,9 @@ use mathlib.Core.Path.{_≡_}
 use mathlib.Core.List.{List}
 use lib.ListN.{length}
 use Rattle.refusal.specs.declared.Outcome.the-variants.{Done}
-use Rattle.geometry.specs.Samples.{Sample, Samples, store}
-use Rattle.geometry.specs.Sweep.{Ranged}
+use Rattle.sample.specs.declared.Sample.{Sample}
+use Rattle.sample.specs.Samples.{Samples, store}
+use Rattle.sample.specs.Sweep.{Ranged}
 use Rattle.costs.specs.Costs.{Named, named}
 use Rattle.costs.specs.Walk.{perm, Rising, LowSteps, Rewritten}
 use Rattle.trace.specs.declared.Trace.{Trace}

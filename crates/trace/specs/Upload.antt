@@ -8,7 +8,8 @@ use Rattle.refusal.specs.declared.Refusal.{Refusal}
 use Rattle.refusal.specs.declared.Refusal.the-variants.{Buffer}
 use Rattle.refusal.specs.declared.Outcome.the-variants.{Done, Refused}
 use Rattle.refusal.specs.Number.{number}
-use Rattle.geometry.specs.Samples.{Sample, Samples, sample, samples}
+use Rattle.sample.specs.declared.Sample.{Sample}
+use Rattle.sample.specs.Samples.{Samples, sample, samples}
 use Rattle.checks.specs.Numbers.{OneLength}
 use Rattle.trace.specs.declared.Trace.{Trace}
 use Rattle.trace.specs.declared.Changed.{Changed}
@@ -27,7 +28,7 @@ uploaded stop a added cells = record { stop = stop; trace = a; added = added; ce
 
 -- the first q of each
 abbrev pub firsts : ℕ → Samples → Samples
-firsts q us = samples (take q (us .across)) (take q (us .upward)) (take q (us .marks))
+firsts q us = samples (take q (us .across)) (take q (us .up)) (take q (us .marks))
 
 -- their samples, in order
 abbrev pub zipped : List ℤ → List ℤ → List ℕ → List Sample
@@ -51,5 +52,5 @@ notUploaded a = uploaded (Stop.Refused Buffer) a 0 0
 -- lists of different length are refused with 3 before anything is looked at or added; else it is the puts, of which empty lists have none. The lists stay
 pub record UploadGives (a : Trace) (b : Buffers) (us : Samples) (r : Uploaded) (e : Buffers) (us′ : Samples) : Type 0 where
   pub unequal : (OneLength us → ⊥) → (r ≡ notUploaded a) × (e ≡ b)
-  pub puts : OneLength us → Puts a b (zipped (us .across) (us .upward) (us .marks)) r e
+  pub puts : OneLength us → Puts a b (zipped (us .across) (us .up) (us .marks)) r e
   pub lists : us′ ≡ us

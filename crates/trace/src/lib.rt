@@ -2,10 +2,11 @@
 ghost use mathlib.Core.Path.{_≡_};
 ghost use Prim.Native.Nat.{_*_, _≤_, _<_};
 ghost use lib.ListN.{length};
-ghost use Rattle.geometry.specs.Samples.{sample, samples};
+ghost use Rattle.sample.specs.Samples.{sample, samples};
 ghost use Rattle.checks.specs.Numbers.{OneLength};
 ghost use Rattle.checks.specs.Rows.{Passed, PassedTable};
-ghost use Rattle.trace.specs.Calls.{sizes, buffers, kept, heldWith, StartGives, PutGives, AskGives, ReadGives};
+ghost use Rattle.sizes.specs.Setup.{kept};
+ghost use Rattle.trace.specs.Calls.{sizes, buffers, heldWith, StartGives, PutGives, AskGives, ReadGives};
 ghost use Rattle.trace.specs.Upload.{zipped, Puts, UploadGives};
 ghost use Rattle.trace.specs.Change.{Ready, Changes};
 use checks::Lengths;
@@ -304,7 +305,7 @@ impl Trace {
     {
         let lists = Lengths {
             across: across.len(),
-            upward: up.len(),
+            up: up.len(),
             marks: restarts.len(),
         };
         let o = checks::upload_outcome(self.sizes(), xs, ys, marks, table, lists);

@@ -6,7 +6,7 @@ use lib.ListN.{length}
 use borrow.Author.Needs.{needs}
 use Rattle.refusal.specs.declared.Outcome.the-variants.{Done}
 use Rattle.refusal.proofs.Laws.{then-refused, and-left}
-use Rattle.geometry.specs.Samples.{samples}
+use Rattle.sample.specs.Samples.{samples}
 use Rattle.checks.specs.Rows.{lengths, samplesLent, tableLent, lentOutcome, readOutcome}
 use Rattle.checks.proofs.Checks.{lent-done, table-held}
 use Rattle.checks.proofs.read_outcome.Statement.{statement}

@@ -1,5 +1,4 @@
 -- `checks::sample_outcome` meets its contract. Assumes nothing.
-use mir.Facts.{toZ-ofZ}
 use Rattle.checks.specs.Rows.{sampleOutcome}
 use borrow.Author.Needs.{needs}
 use Rattle.checks.proofs.sample_outcome.Statement.{statement}
@@ -23,8 +22,7 @@ returns c =
     let p = c .before in
     let u = p .before in
     let d = u .before in
-    let s = d .before in
-    rw (c .and-then .ensures, p .place-outcome .ensures, u .unless .ensures, d .sample-ok .ensures, toZ-ofZ (s .fits .x), toZ-ofZ (s .fits .y))
+    rw (c .and-then .ensures, p .place-outcome .ensures, u .unless .ensures, d .sample-ok .ensures)
 
 pub sample-outcome-spec : {M : Type 1} → statement M
 sample-outcome-spec =

@@ -3,7 +3,7 @@ use mathlib.Core.Path.{_≡_, sym, _∙_}
 use borrow.Author.Needs.{needs}
 use Rattle.refusal.specs.declared.Outcome.the-variants.{Done}
 use Rattle.refusal.proofs.Laws.{then-refused}
-use Rattle.geometry.specs.Samples.{samples}
+use Rattle.sample.specs.Samples.{samples}
 use Rattle.checks.specs.Rows.{lengths, samplesLent, lentOutcome, samplesOutcome}
 use Rattle.checks.proofs.Checks.{samples-held}
 use Rattle.checks.proofs.samples_outcome.Statement.{statement}

@@ -2,7 +2,8 @@
 use mathlib.Core.Path.{_≡_, sym, _∙_}
 use Rattle.refusal.specs.declared.Outcome.the-variants.{Done}
 use Rattle.refusal.proofs.Laws.{then-refused}
-use Rattle.checks.specs.Rows.{setupOutcome, lentOutcome}
+use Rattle.sizes.specs.Rows.{setupOutcome}
+use Rattle.checks.specs.Rows.{lentOutcome}
 use borrow.Author.Needs.{needs}
 use Rattle.checks.proofs.samples_room.Statement.{statement}
 use Rattle.checks.proofs.samples_room.Tie as tie

@@ -2,8 +2,9 @@
 use mathlib.Core.Path.{_≡_, sym, _∙_}
 use Rattle.refusal.specs.declared.Outcome.the-variants.{Done}
 use Rattle.refusal.proofs.Laws.{then-refused}
-use Rattle.checks.specs.Rows.{setupOutcome, lentOutcome}
-use Rattle.checks.proofs.Checks.{setup-done}
+use Rattle.sizes.specs.Rows.{setupOutcome}
+use Rattle.checks.specs.Rows.{lentOutcome}
+use Rattle.sizes.proofs.Decided.{setup-done}
 use borrow.Author.Needs.{needs}
 use Rattle.checks.proofs.table_room.Statement.{statement}
 use Rattle.checks.proofs.table_room.Tie as tie

@@ -5,7 +5,7 @@ use lib.ListN.{length}
 use borrow.Author.Needs.{needs}
 use Rattle.refusal.specs.declared.Outcome.the-variants.{Done}
 use Rattle.refusal.proofs.Laws.{then-refused}
-use Rattle.geometry.specs.Samples.{samples}
+use Rattle.sample.specs.Samples.{samples}
 use Rattle.checks.specs.Rows.{lengths, samplesLent, tableLent, lentOutcome, traceOutcome}
 use Rattle.checks.proofs.Checks.{lent-done, table-held}
 use Rattle.checks.proofs.trace_outcome.Statement.{statement}

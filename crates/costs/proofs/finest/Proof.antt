@@ -10,8 +10,8 @@ use lib.ListN.{getD}
 use Rattle.geometry.specs.Near.{Along}
 use Rattle.geometry.specs.Spoiler.{Clear, isYes}
 use Rattle.geometry.proofs.Permits.{along-wider}
-use Rattle.geometry.specs.Samples.{samples}
-use Rattle.geometry.specs.Sweep.{noMarks}
+use Rattle.sample.specs.Samples.{samples}
+use Rattle.sample.specs.Sweep.{noMarks}
 use Rattle.costs.specs.Walk.{perm}
 use Rattle.costs.proofs.Perm.{perm-judged, rising, perm-higher, finest-is}
 use Rattle.costs.proofs.finest.Statement.{statement}

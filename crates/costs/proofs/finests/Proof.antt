@@ -7,7 +7,7 @@ use native.Mathlib.Omega.{arith}
 use lib.ListN.{length, getD, length-set, getD-replicate}
 use lib.Seq.{getD-set-other}
 use Rattle.table.proofs.Stops.{filled}
-use Rattle.geometry.specs.Samples.{samples}
+use Rattle.sample.specs.Samples.{samples}
 use Rattle.costs.specs.Walk.{perm, Finest}
 use Rattle.costs.proofs.Perm.{perm-unmarked, perm-stops, finest-is, finest-same}
 use Rattle.costs.proofs.finests.Statement.{statement}
@@ -35,7 +35,7 @@ sub-i c = omega arith
 finest-requires : tie.Need-finest-requires Inv-loop μ-loop
 finest-requires c κs =
     let p = c .before .before .before .before .pre in
-    (p .0 .across, p .0 .upward, omega arith, p .4, p .5)
+    (p .0 .across, p .0 .up, omega arith, p .4, p .5)
 
 mul-levels : tie.Need-mul-levels Inv-loop μ-loop
 mul-levels c = omega arith

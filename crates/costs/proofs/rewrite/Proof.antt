@@ -4,9 +4,9 @@ use Prim.Native.Nat.{_+_, _-_, _≤_, min}
 use native.Mathlib.Omega.{arith}
 use native.Mathlib.Nat.{mul-le-mul}
 use Rattle.costs.specs.Costs.{Named, named}
-use Rattle.geometry.specs.Samples.{samples}
+use Rattle.sample.specs.Samples.{samples}
 use Rattle.costs.specs.Walk.{perm, Rewritten}
-use Rattle.geometry.proofs.Coordinate.{fewer-ranged}
+use Rattle.sample.proofs.Coordinate.{fewer-ranged}
 use Rattle.costs.proofs.Perm.{perm-adjacent}
 use Rattle.costs.proofs.Rows.{ends-none, ends-more}
 use Rattle.costs.proofs.Sums.{ends-settled}

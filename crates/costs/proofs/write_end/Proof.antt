@@ -3,7 +3,7 @@ use mathlib.Core.Path.{_≡_}
 use mathlib.Core.Logic.{inl, inr, ⊎-elim}
 use Prim.Native.Nat.{_+_, min}
 use native.Mathlib.Omega.{arith}
-use Rattle.geometry.specs.Samples.{samples}
+use Rattle.sample.specs.Samples.{samples}
 use Rattle.costs.specs.Walk.{perm}
 use Rattle.costs.proofs.Perm.{perm-adjacent, finest-near}
 use Rattle.costs.proofs.Rows.{rows-said}

@@ -3,7 +3,7 @@ use mathlib.Core.Path.{_≡_, refl}
 use Prim.Native.Nat.{_-_, _≤_}
 use native.Mathlib.Omega.{arith}
 use borrow.Author.Needs.{needs}
-use Rattle.geometry.specs.Samples.{samples}
+use Rattle.sample.specs.Samples.{samples}
 use Rattle.day.specs.Day.{count}
 use Rattle.day.specs.Fill.{dayTrace, Filled}
 use Rattle.day.proofs.Filled.{filled-none, filled-more, all-refused, all-added}

@@ -16,7 +16,7 @@ squared-requires : tie.Need-squared-requires
 squared-requires c κs =
     let p = c .before .before .pre in
     let e = ways-back (p .0) (p .1) in
-    rw (e .2, e .3) (omega (arith, p .1 .across), omega (arith, p .1 .upward))
+    rw (e .2, e .3) (omega (arith, p .1 .across), omega (arith, p .1 .up))
 
 enum-told-2 : tie.Need-enum-told-2
 enum-told-2 c = search needs

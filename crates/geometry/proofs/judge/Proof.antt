@@ -62,11 +62,11 @@ near-requires c κs =
     rw (handed (v .result) (v .ok), handed (w .result) (w .ok), handed (c .before .way3 .result) (c .before .way3 .ok), handed (c .way4 .result) (c .way4 .ok)) (
       record {
         across = rw (v .ensures) (way-size (p .0 .each (a .i) (omega arith)) (p .0 .each (a .j) (omega arith)));
-        upward = rw (w .ensures) (way-size (p .1 .each (a .i) (omega arith)) (p .1 .each (a .j) (omega arith)));
+        up = rw (w .ensures) (way-size (p .1 .each (a .i) (omega arith)) (p .1 .each (a .j) (omega arith)));
       },
       record {
         across = rw (c .before .way3 .ensures) (way-size (p .0 .each (a .i) (omega arith)) (p .0 .each _ (omega arith)));
-        upward = rw (c .way4 .ensures) (way-size (p .1 .each (a .i) (omega arith)) (p .1 .each _ (omega arith)));
+        up = rw (c .way4 .ensures) (way-size (p .1 .each (a .i) (omega arith)) (p .1 .each _ (omega arith)));
       },
       rw (handed (v .result) (v .ok), handed (w .result) (w .ok)) at (c .before .before .before .before .squared .ensures),
       omega (arith, mul-le-mul (p .5) (p .5)),

@@ -2,7 +2,7 @@
 use mathlib.Core.Logic.{⊎-elim}
 use native.Mathlib.Omega.{arith}
 use borrow.Author.Needs.{needs}
-use Rattle.geometry.specs.Samples.{samples}
+use Rattle.sample.specs.Samples.{samples}
 use Rattle.geometry.proofs.Marks.{far-first, marked-first, none-marked}
 use Rattle.geometry.proofs.permitted.Statement.{statement}
 use Rattle.geometry.proofs.permitted.Tie as tie
@@ -20,7 +20,7 @@ judge-requires : tie.Need-judge-requires
 judge-requires c κs =
     let p = c .before .before .pre in
     let f = c .first-marked .ensures in
-    ((p .0 .across, p .0 .upward, omega arith, omega (arith, f .from), ⊎-elim (λ t. omega arith) (λ t. omega arith) (f .there), p .3), λ l a b. absurd (omega arith))
+    ((p .0 .across, p .0 .up, omega arith, omega (arith, f .from), ⊎-elim (λ t. omega arith) (λ t. omega arith) (f .there), p .3), λ l a b. absurd (omega arith))
 
 enum-told : tie.Need-enum-told
 enum-told c = search needs

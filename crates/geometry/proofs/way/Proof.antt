@@ -2,7 +2,7 @@
 use borrow.Author.Needs.{needs}
 use mathlib.Core.Path.{refl}
 use mir.Facts.{toZ-ofZ}
-use Rattle.geometry.proofs.Move.{narrow, wide}
+use Rattle.sample.proofs.Move.{narrow, wide}
 use Rattle.geometry.proofs.Ways.{way-fits}
 use Rattle.geometry.proofs.way.Statement.{statement}
 use Rattle.geometry.proofs.way.Tie as tie

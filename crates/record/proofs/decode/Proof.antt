@@ -4,7 +4,7 @@ use native.Mathlib.Omega.{arith}
 use lib.ListN.{length}
 use Rattle.refusal.specs.declared.Outcome.{Outcome}
 use Rattle.record.specs.Record.{decodedBy, decodeOf}
-use Rattle.record.proofs.Signed.{back}
+use Rattle.words.proofs.Signed.{back}
 use Rattle.record.proofs.Record.{decode-length}
 use borrow.Author.Needs.{needs}
 use Rattle.record.proofs.decode.Statement.{statement}

@@ -1,7 +1,7 @@
 -- `record::in_range_at` meets its contract: a signed number is read back from its bits. Assumes nothing.
 use mathlib.Core.Path.{sym, ap, _∙_}
-use Rattle.geometry.specs.Coordinate.{coordinateOk}
-use Rattle.geometry.proofs.Coordinate.{coordinate-back}
+use Rattle.sample.specs.Coordinate.{coordinateOk}
+use Rattle.sample.proofs.Coordinate.{coordinate-back}
 use borrow.Author.Needs.{needs}
 use Rattle.record.proofs.in_range_at.Statement.{statement}
 use Rattle.record.proofs.in_range_at.Tie as tie

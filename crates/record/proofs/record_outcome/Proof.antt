@@ -2,7 +2,7 @@
 use mathlib.Core.Path.{_≡_, sym, _∙_}
 use mathlib.Core.Bool.{true}
 use borrow.Author.Tests.{not-true, not-false}
-use Rattle.geometry.specs.Coordinate.{coordinateOk}
+use Rattle.sample.specs.Coordinate.{coordinateOk}
 use Rattle.record.specs.Record.{across, up, recordOutcome}
 use borrow.Author.Needs.{needs}
 use Rattle.record.proofs.record_outcome.Statement.{statement}

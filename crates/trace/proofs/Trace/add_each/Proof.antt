@@ -7,7 +7,7 @@ use lib.ListN.{length, getD}
 use mir.Syntax.{w16}
 use mir.Facts.{toZ-ofZ}
 use borrow.Author.Needs.{needs}
-use Rattle.geometry.specs.Samples.{samples}
+use Rattle.sample.specs.Samples.{samples}
 use Rattle.trace.specs.Calls.{buffers, PutGives}
 use Rattle.trace.specs.Upload.{zipped}
 use Rattle.trace.proofs.Upload.{noSample, zipped-length, zipped-at, Underway, underway-none, next-few, underway-more, underway-stops, underway-ends}

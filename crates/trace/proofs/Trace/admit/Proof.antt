@@ -2,7 +2,7 @@
 use mir.Facts.{toZ-ofZ}
 use borrow.Author.Needs.{needs}
 use Rattle.refusal.specs.Number.{code}
-use Rattle.geometry.specs.Samples.{samples, sample}
+use Rattle.sample.specs.Samples.{samples, sample}
 use Rattle.checks.specs.Numbers.{PutNumber}
 use Rattle.checks.proofs.Numbers.{put-admitted}
 use Rattle.checks.proofs.Passed.{trace-passed}

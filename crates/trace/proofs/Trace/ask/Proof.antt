@@ -4,8 +4,8 @@ use Prim.Native.Nat.{_-_, _≤_, _<_}
 use native.Mathlib.Omega.{arith}
 use borrow.Author.Needs.{needs}
 use Rattle.refusal.specs.Number.{code}
-use Rattle.geometry.proofs.Coordinate.{fewer-ranged}
-use Rattle.geometry.specs.Samples.{samples}
+use Rattle.sample.proofs.Coordinate.{fewer-ranged}
+use Rattle.sample.specs.Samples.{samples}
 use Rattle.checks.specs.Numbers.{AskNumber}
 use Rattle.checks.proofs.Numbers.{ask-number}
 use Rattle.checks.specs.Rows.{Passed}

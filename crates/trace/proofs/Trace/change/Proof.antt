@@ -5,7 +5,7 @@ use lib.IntN.{ℤ}
 use lib.ListN.{set, length-set}
 use mir.Facts.{toZ-ofZ}
 use borrow.Author.Needs.{needs}
-use Rattle.geometry.specs.Samples.{samples}
+use Rattle.sample.specs.Samples.{samples}
 use Rattle.trace.proofs.Trace.change.Statement.{statement}
 use Rattle.trace.proofs.Trace.change.Tie as tie
 use Rattle.trace.specs.Calls.{sizes}
@@ -24,7 +24,7 @@ mul-y c = search needs
 slice-set-from-y : tie.Need-slice-set-from-y
 slice-set-from-y c =
     let s = c .before .before in
-    omega (arith, length-set (s .args .ys .now) (s .args .v) (s .args .y), s .pre .ranged .upward .held)
+    omega (arith, length-set (s .args .ys .now) (s .args .v) (s .args .y), s .pre .ranged .up .held)
 
 slice-write-marks : tie.Need-slice-write-marks
 slice-write-marks c = search needs

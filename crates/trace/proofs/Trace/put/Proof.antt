@@ -1,6 +1,6 @@
 -- `trace::Trace::put` meets its contract. Assumes nothing.
 use mir.Facts.{toZ-ofZ}
-use Rattle.geometry.specs.Samples.{samples, sample}
+use Rattle.sample.specs.Samples.{samples, sample}
 use Rattle.trace.specs.Calls.{sizes, buffers}
 use borrow.Author.Needs.{needs}
 use Rattle.checks.proofs.Numbers.{put-stopped}

@@ -5,7 +5,7 @@ use native.Mathlib.Omega.{arith}
 use lib.ListN.{length}
 use borrow.Author.Needs.{needs}
 use Rattle.refusal.specs.Number.{code}
-use Rattle.geometry.specs.Samples.{samples}
+use Rattle.sample.specs.Samples.{samples}
 use Rattle.checks.specs.Numbers.{ReadNumber}
 use Rattle.checks.proofs.Numbers.{read-number}
 use Rattle.checks.specs.Rows.{Passed, PassedTable}

@@ -1,7 +1,7 @@
 -- `trace::Trace::upload` meets its contract. Assumes nothing.
 use Prim.Native.Nat.{_<_}
 use lib.ListN.{length}
-use Rattle.geometry.specs.Samples.{samples}
+use Rattle.sample.specs.Samples.{samples}
 use Rattle.trace.specs.Calls.{sizes, buffers}
 use Rattle.checks.specs.Numbers.{OneLength}
 use Rattle.checks.specs.Rows.{Passed, PassedTable}

@@ -1,0 +1,3 @@
+pub mod Coordinate
+pub mod Move
+pub mod Decided

@@ -1,0 +1,5 @@
+pub mod Coordinate
+pub mod Mark
+pub mod Samples
+pub mod Sweep
+pub mod Valid
