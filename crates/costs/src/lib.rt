@@ -11,6 +11,7 @@ ghost use Rattle.table.specs.Path.{SumAt};
 ghost use Rattle.costs.specs.Costs.{Named, named};
 ghost use Rattle.costs.specs.Walk.{perm, Rising, LowSteps, Rewritten, Row, Rows, Finest, from-finest, price as priceOf, Settled};
 use geometry::Verdict;
+use sizes::Sizes;
 
 // The least sums to j over the cells of level k, from each place up to j.
 fn sums_to(table: &[u16], cap: usize, k: usize, j: usize) -> [u32; 256]
@@ -136,7 +137,7 @@ fn finests(
     requires { ⌜ (Ranged (samples (now xs) (now ys) (now marks)) (j + 1)) × (j < length (now marks)) × (top ≤ j) × (j < 256) × (m ≤ 16) × (Rising (now tolerances) m) ⌝ }
     ensures { λ r. ⌜ ((i : ℕ) → i < top → Finest (perm (samples (now (xs .entry)) (now (ys .entry)) (now (marks .entry))) (now (tolerances .entry))) m i j (getD r i 0)) ⌝ }
 {
-    let last = geometry::last_marked(marks, j);
+    let last = sample::last_marked(marks, j);
     let mut levels: [usize; 256] = [m + 1; 256];
     let mut i = top;
     while last < i {
@@ -161,45 +162,41 @@ fn write_end(
     xs: &[i16],
     ys: &[i16],
     marks: &[u8],
-    tolerances: &[u32; 16],
-    cap: usize,
-    m: usize,
+    s: Sizes,
     v: usize,
     j: usize,
 ) -> usize
-    requires { ⌜ (1 ≤ m) × (m ≤ 16) × (cap ≤ 256) × (v ≤ j) × (j < cap) × (Rising (now tolerances) m) ⌝ }
-    requires { ⌜ (Ranged (samples (now xs) (now ys) (now marks)) (j + 1)) × (j < length (now marks)) × (m * (cap * cap) ≤ length (now table)) ⌝ }
-    requires { ⌜ Settled (now table) cap m j (v + 1) ⌝ }
-    ensures { λ r. ⌜ r ≡ m * min j (v + 1) ⌝ }
-    ensures { λ r. ⌜ Rewritten cap (perm (samples (now (xs .entry)) (now (ys .entry)) (now (marks .entry))) (now (tolerances .entry))) (Rows m j (min j (v + 1))) (now (table .entry)) (now (table .exit)) ⌝ }
+    requires { ⌜ (1 ≤ s .levels) × (s .levels ≤ 16) × (s .capacity ≤ 256) × (v ≤ j) × (j < s .capacity) × (Rising (s .tolerances) (s .levels)) ⌝ }
+    requires { ⌜ (Ranged (samples (now xs) (now ys) (now marks)) (j + 1)) × (j < length (now marks)) × (s .levels * (s .capacity * s .capacity) ≤ length (now table)) ⌝ }
+    requires { ⌜ Settled (now table) (s .capacity) (s .levels) j (v + 1) ⌝ }
+    ensures { λ r. ⌜ r ≡ s .levels * min j (v + 1) ⌝ }
+    ensures { λ r. ⌜ Rewritten (s .capacity) (perm (samples (now (xs .entry)) (now (ys .entry)) (now (marks .entry))) (s .tolerances)) (Rows (s .levels) j (min j (v + 1))) (now (table .entry)) (now (table .exit)) ⌝ }
 {
     let top = starts(v, j);
-    let levels = finests(xs, ys, marks, tolerances, m, j, top);
-    write_rows(table, &levels, cap, m, j, top)
+    let tolerances = s.tolerances;
+    let levels = finests(xs, ys, marks, &tolerances, s.levels, j, top);
+    write_rows(table, &levels, s.capacity, s.levels, j, top)
 }
 
-// Write the cells of the stretches of n samples that hold sample v, end by end, and count them.
+// Write the cells of the stretches that hold sample v, of the samples held, end by end, and count them.
 pub fn rewrite(
     table: &mut [u16],
     xs: &[i16],
     ys: &[i16],
     marks: &[u8],
-    tolerances: &[u32; 16],
-    cap: usize,
-    m: usize,
+    s: Sizes,
     v: usize,
-    n: usize,
 ) -> usize
-    requires { ⌜ (1 ≤ m) × (m ≤ 16) × (cap ≤ 256) × (v < n) × (n ≤ cap) × (Rising (now tolerances) m) ⌝ }
-    requires { ⌜ (Ranged (samples (now xs) (now ys) (now marks)) n) × (n ≤ length (now marks)) × (m * (cap * cap) ≤ length (now table)) ⌝ }
-    requires { ⌜ LowSteps (now table) cap m v n ⌝ }
-    ensures { λ r. ⌜ r ≡ named m v n ⌝ }
-    ensures { λ r. ⌜ Rewritten cap (perm (samples (now (xs .entry)) (now (ys .entry)) (now (marks .entry))) (now (tolerances .entry))) (Named m v n) (now (table .entry)) (now (table .exit)) ⌝ }
+    requires { ⌜ (1 ≤ s .levels) × (s .levels ≤ 16) × (s .capacity ≤ 256) × (v < s .held) × (s .held ≤ s .capacity) × (Rising (s .tolerances) (s .levels)) ⌝ }
+    requires { ⌜ (Ranged (samples (now xs) (now ys) (now marks)) (s .held)) × (s .held ≤ length (now marks)) × (s .levels * (s .capacity * s .capacity) ≤ length (now table)) ⌝ }
+    requires { ⌜ LowSteps (now table) (s .capacity) (s .levels) v (s .held) ⌝ }
+    ensures { λ r. ⌜ r ≡ named (s .levels) v (s .held) ⌝ }
+    ensures { λ r. ⌜ Rewritten (s .capacity) (perm (samples (now (xs .entry)) (now (ys .entry)) (now (marks .entry))) (s .tolerances)) (Named (s .levels) v (s .held)) (now (table .entry)) (now (table .exit)) ⌝ }
 {
     let mut count = 0;
     let mut j = v;
-    while j < n {
-        count += write_end(table, xs, ys, marks, tolerances, cap, m, v, j);
+    while j < s.held {
+        count += write_end(table, xs, ys, marks, s, v, j);
         j += 1;
     }
     count

@@ -21,7 +21,8 @@ use Rattle.trace.specs.declared.Changed.{Changed}
 use Rattle.trace.specs.declared.Stop.the-variants as Stop
 use Rattle.trace.specs.declared.Uploaded.{Uploaded}
 use Rattle.trace.specs.declared.Levels.{Levels}
-use Rattle.trace.specs.Calls.{Buffers, heldWith, Put, PutGives, holding}
+use Rattle.sizes.specs.Setup.{heldWith}
+use Rattle.trace.specs.Calls.{Buffers, Put, PutGives, holding}
 use Rattle.trace.specs.Upload as upload
 use Rattle.trace.specs.Upload.{zipped, Puts}
 use Rattle.trace.specs.Upload.Puts.{all-taken, one-refused, one-taken}

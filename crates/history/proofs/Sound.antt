@@ -22,12 +22,13 @@ use Rattle.trace.specs.declared.Uploaded.{Uploaded}
 use Rattle.sizes.specs.Setup.{Sized, Tolerances}
 use Rattle.checks.specs.Numbers.{PutNumber}
 use Rattle.sizes.specs.Setup.{kept}
-use Rattle.trace.specs.Calls.{sizes, Buffers, heldWith, Put, NotPut, PutGives}
+use Rattle.sizes.specs.Setup.{heldWith}
+use Rattle.trace.specs.Calls.{sizes, Buffers, Put, NotPut, PutGives}
 use Rattle.trace.specs.Upload.{zipped, notUploaded, Puts, UploadGives}
 use Rattle.trace.specs.Upload.Puts.{all-taken, one-refused, one-taken}
 use Rattle.checks.proofs.Decided.{lists-decided}
 use Rattle.checks.proofs.Passed.{start-passed, put-passed}
-use Rattle.trace.proofs.Held.{held-others}
+use Rattle.sizes.proofs.Held.{held-others}
 use Rattle.trace.proofs.Calls.{put-able, put-rewritten, put-keeps, buffers-is}
 use Rattle.history.specs.Run.{State, Call, Answer, Step}
 use Rattle.history.specs.Run.Call.{start}

@@ -15,7 +15,8 @@ use Rattle.readout.specs.Read.{rank}
 use Rattle.trace.specs.declared.Changed.{Changed}
 use Rattle.trace.specs.declared.Uploaded.{Uploaded}
 use Rattle.trace.specs.declared.Levels.{Levels}
-use Rattle.trace.specs.Calls.{heldWith, holding, noTrace}
+use Rattle.sizes.specs.Setup.{heldWith}
+use Rattle.trace.specs.Calls.{holding, noTrace}
 use Rattle.checks.specs.Numbers.{OneLength}
 use Rattle.trace.specs.Upload.{firsts}
 use Rattle.history.specs.Run.{State, Call, Answer, Step, Run, answered}

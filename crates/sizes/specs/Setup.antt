@@ -1,6 +1,8 @@
--- The setup of a trace: its ranges, refusals 1 and 2, and the tolerances that start keeps. Assumes nothing.
+-- How large a trace is: the ranges, refusals 1 and 2, the tolerances that start keeps, and how many samples are held. Assumes nothing.
+use mathlib.Core.Bool.{cond}
 use mathlib.Core.List.{List, _++_}
 use Prim.Native.Nat.{ℕ, _+_, _-_, _≤_, _<_}
+use lib.Dec.{ltb}
 use lib.ListN.{getD, take, replicate}
 use Rattle.refusal.specs.Check.{First}
 
@@ -21,3 +23,7 @@ SetupNumber m N tols rest = First 1 (Sized m N → ⊥) (First 2 (Tolerances m t
 -- the first m tolerances, then zeros up to 16
 abbrev pub kept : ℕ → List ℕ → List ℕ
 kept m tols = take m tols ++ replicate (16 - m) 0
+
+-- how many samples are held once sample v is put among n: as many for a correction, where v is below n, and one more for an addition, where v is n
+abbrev pub heldWith : ℕ → ℕ → ℕ
+heldWith n v = cond (ltb v n) n (n + 1)

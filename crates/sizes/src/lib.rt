@@ -1,7 +1,7 @@
 // How large a trace is, by value: levels, capacity, samples held and tolerances; their ranges, and refusals 1 and 2.
 ghost use mathlib.Core.Path.{_≡_};
 ghost use Prim.Native.Nat.{_≤_};
-ghost use Rattle.sizes.specs.Setup.{kept};
+ghost use Rattle.sizes.specs.Setup.{kept, heldWith};
 ghost use Rattle.sizes.specs.Rows.{setupOk, tolerancesOk, setupOutcome};
 use refusal::Outcome;
 use refusal::Refusal;
@@ -87,4 +87,15 @@ pub fn keep(m: usize, tolerances: [u32; 16]) -> [u32; 16]
         k += 1;
     }
     out
+}
+
+// How many samples are held once sample v is put among n.
+pub fn held_with(n: usize, v: usize) -> usize
+    requires { ⌜ n ≤ 256 ⌝ }
+    ensures { λ r. ⌜ r ≡ heldWith n v ⌝ }
+{
+    if v < n {
+        return n;
+    }
+    n + 1
 }

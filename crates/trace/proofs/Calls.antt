@@ -21,10 +21,11 @@ use Rattle.costs.proofs.Exit.{held-end, put-checked}
 use Rattle.trace.specs.declared.Trace.{Trace}
 use Rattle.trace.specs.declared.Changed.{Changed}
 use Rattle.checks.specs.Numbers.{PutNumber}
-use Rattle.trace.specs.Calls.{sizes, Buffers, buffers, heldWith, Put, PutGives}
+use Rattle.sizes.specs.Setup.{heldWith}
+use Rattle.trace.specs.Calls.{sizes, Buffers, buffers, holding, Put, PutGives}
 use Rattle.checks.specs.Rows.{Passed, PassedTable}
-use Rattle.trace.specs.Change.{Ready, Changes}
-use Rattle.trace.proofs.Held.{held-others}
+use Rattle.change.specs.Change.{Ready, Changes}
+use Rattle.sizes.proofs.Held.{held-others}
 use Rattle.checks.proofs.Passed.{put-passed}
 use Rattle.trace.proofs.Ready.{put-ready, set-each}
 use Rattle.costs.proofs.Meaning.{rewritten-cells, cells-rewritten}
@@ -43,7 +44,7 @@ buffers-is {b} {xs} {t} p q = let f : buffers (b .samples) (b .table) ≡ buffer
 
 -- what is known where the change of sample v, of n samples after it, is not refused: all that it asks, and that the cells of stretches without v pass check 5
 pub record Able (a : Trace) (b : Buffers) (v n : ℕ) (x : Sample) : Type 0 where
-  pub ready : Ready a (b .samples) (b .table) v n x
+  pub ready : Ready (sizes (holding a n)) (b .samples) (b .table) v x
   pub fine : (k i j : ℕ) → 1 ≤ k → k ≤ a .levels → i < j → j < n → Without v i j → Fine k i j (cell (b .table) (a .capacity) k i j)
 
 pub put-able : (a : Trace) (b : Buffers) (v : ℕ) (x : Sample) → PutNumber (sizes a) (b .samples) (b .table) v x 0 → Able a b v (heldWith (a .held) v) x
@@ -65,18 +66,19 @@ module _ {a : Trace} {b : Buffers} {v : ℕ} {x : Sample} where
   }
 
   -- the sample is put
-  pub changed-gives : {r : Changed} {e : Buffers} → PutNumber (sizes a) (b .samples) (b .table) v x 0
-      → Changes a (b .samples) (b .table) v (heldWith (a .held) v) x r (e .samples) (e .table) → PutGives a b v x r e
-  changed-gives {r} {e} h C =
+  pub changed-gives : {cells : ℕ} {e : Buffers} → PutNumber (sizes a) (b .samples) (b .table) v x 0
+      → Changes (sizes (holding a (heldWith (a .held) v))) (b .samples) (b .table) v x cells (e .samples) (e .table)
+      → PutGives a b v x (record { outcome = Done; trace = holding a (heldWith (a .held) v); cells = cells }) e
+  changed-gives {cells} {e} h C =
       let A = put-able a b v x h in
       let R = A .ready in
       let z = R .sizes in
       let w = rewritten-cells (a .capacity) (store (b .samples) v x) (a .tolerances) (a .levels) v (heldWith (a .held) v) (b .table)
       (z .1) (omega arith) (z .4) (R .ranged) (A .fine) (e .table) (C .cells) in
       record {
-        number = rw (C .outcome) h;
-        done = λ d. record { trace = C .trace; samples = C .samples; cells = rw (C .samples) w; count = C .count };
-        refused = λ w g. done-refused (C .outcome) g;
+        number = h;
+        done = λ d. record { trace = refl; samples = C .samples; cells = rw (C .samples) w; count = C .count };
+        refused = λ w g. done-refused refl g;
       }
 
 -- and back: what a change of sample v leaves in the table is what the walk leaves

@@ -31,7 +31,8 @@ use Rattle.trace.specs.declared.Asked.{Asked}
 use Rattle.trace.specs.declared.Asked.the-variants as Asked
 use Rattle.trace.specs.declared.Levels.{Levels}
 use Rattle.checks.specs.Numbers.{StartNumber, PutNumber, AskNumber, ReadNumber}
-use Rattle.trace.specs.Calls.{sizes, emptyTrace, noTrace, StartGives, Buffers, buffers, heldWith, holding, PutGives, AskGives, ReadGives}
+use Rattle.sizes.specs.Setup.{heldWith}
+use Rattle.trace.specs.Calls.{sizes, emptyTrace, noTrace, StartGives, Buffers, buffers, holding, PutGives, AskGives, ReadGives}
 use Rattle.trace.specs.Upload.{uploaded, zipped, Puts, notUploaded, UploadGives}
 use Rattle.trace.specs.Upload.Puts.{all-taken, one-refused, one-taken}
 use Rattle.sizes.specs.Rows.{setupOutcome}
@@ -63,7 +64,7 @@ put-some a b v x = by (putOutcome (sizes a) (b .samples) (b .table) v x) (put-nu
         let w = rewritten-some (a .capacity) (perm xs (a .tolerances)) (a .levels) v n (R .sizes .3) (R .sizes .4) (b .table) (R .room) in (
           record { outcome = Done; trace = holding a n; cells = named (a .levels) v n },
           buffers xs (w .0),
-          changed-gives h (record { outcome = refl; trace = refl; samples = refl; cells = w .1; count = refl }),
+          changed-gives h (record { samples = refl; cells = w .1; count = refl }),
         )
 
 -- ---- upload

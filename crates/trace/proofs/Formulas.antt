@@ -8,7 +8,7 @@ use Rattle.costs.proofs.Tally.{named-formula, named-add}
 use Rattle.trace.specs.declared.Trace.{Trace}
 use Rattle.trace.specs.declared.Changed.{Changed}
 use Rattle.trace.specs.Calls.{Buffers, Put, PutGives}
-use Rattle.trace.proofs.Held.{held-corrected, held-added}
+use Rattle.sizes.proofs.Held.{held-corrected, held-added}
 
 module _ (a : Trace) (b : Buffers) (v : ℕ) (x : Sample) (r : Changed) (e : Buffers) (G : PutGives a b v x r e) (d : r .outcome ≡ Done) where
   -- below n it is a correction: sample v is another, and as many are held

@@ -1,4 +1,3 @@
-pub mod Held
 pub mod Ready
 pub mod Exactly
 pub mod Calls

@@ -17,9 +17,10 @@ use Rattle.checks.proofs.Passed.{put-passed}
 use Rattle.costs.specs.Walk.{Rising}
 use Rattle.costs.proofs.Exit.{put-steps}
 use Rattle.trace.specs.declared.Trace.{Trace}
-use Rattle.trace.specs.Calls.{sizes, heldWith}
-use Rattle.trace.specs.Change.{Ready}
-use Rattle.trace.proofs.Held.{held-there, held-room, held-others}
+use Rattle.sizes.specs.Setup.{heldWith}
+use Rattle.trace.specs.Calls.{sizes, holding}
+use Rattle.change.specs.Change.{Ready}
+use Rattle.sizes.proofs.Held.{held-there, held-room, held-others}
 
 -- the tolerances rise, as the walk asks
 pub rising : {m : ℕ} {tols : List ℕ} → Tolerances m tols → Rising tols m
@@ -38,7 +39,7 @@ put-range : (xs : List ℤ) (v n : ℕ) (x : ℤ) → v < n → n ≤ length xs 
 put-range xs v n x o h c others = record { held = rw (length-set xs v x) h; each = set-each (pos 0) Coord xs v n x o h c others }
 
 -- what a change of a sample asks
-pub put-ready : (a : Trace) (xs : Samples) (t : List ℕ) (v : ℕ) (x : Sample) → PutNumber (sizes a) xs t v x 0 → Ready a xs t v (heldWith (a .held) v) x
+pub put-ready : (a : Trace) (xs : Samples) (t : List ℕ) (v : ℕ) (x : Sample) → PutNumber (sizes a) xs t v x 0 → Ready (sizes (holding a (heldWith (a .held) v))) xs t v x
 put-ready a xs t v x h =
     let p = put-passed (sizes a) xs t v x h in
     let P = p .0 in

@@ -34,13 +34,14 @@ use Rattle.trace.specs.declared.Levels.{Levels}
 use Rattle.sample.specs.Valid.{Valid}
 use Rattle.sizes.specs.Setup.{Tolerances}
 use Rattle.checks.specs.Numbers.{LentSamples, LentTable, StoredSamples, StoredCells, TraceNumber, PutNumber, ReadNumber}
-use Rattle.trace.specs.Calls.{sizes, Buffers, heldWith, Put, PutGives, asked, Says, AskGives, ReadGives}
+use Rattle.sizes.specs.Setup.{heldWith}
+use Rattle.trace.specs.Calls.{sizes, Buffers, Put, PutGives, asked, Says, AskGives, ReadGives}
 use Rattle.trace.specs.Upload.{Puts, UploadGives}
 use Rattle.trace.specs.Upload.Puts.{all-taken, one-refused, one-taken}
 use Rattle.trace.specs.Alike.{AlikeTraces, AlikePlaces, AlikeSamples, AlikeCells, AlikeBuffers, AlikeChanges, AlikeUploads}
 use Rattle.checks.proofs.Decided.{lists-decided}
 use Rattle.checks.proofs.Numbers.{put-number-one, ask-number-one, read-number-one}
-use Rattle.trace.proofs.Held.{held-others}
+use Rattle.sizes.proofs.Held.{held-others}
 use Rattle.checks.proofs.Passed.{put-passed, ask-passed, read-passed}
 use Rattle.trace.proofs.Calls.{done-refused, refused-one, Able, put-able, put-rewritten}
 use Rattle.trace.proofs.Unique.{by-number, says-one, levels-same}

@@ -1,10 +1,8 @@
 -- What each call gives and leaves: its number, its answer, and every lent buffer after the call. Assumes nothing.
 use mathlib.Core.Path.{_≡_}
-use mathlib.Core.Bool.{cond}
-use mathlib.Core.List.{List, _++_}
-use Prim.Native.Nat.{ℕ, _+_, _-_}
-use lib.Dec.{ltb}
-use lib.ListN.{getD, take, replicate}
+use mathlib.Core.List.{List}
+use Prim.Native.Nat.{ℕ, _-_}
+use lib.ListN.{getD, replicate}
 use Rattle.refusal.specs.declared.Refusal.{Refusal}
 use Rattle.refusal.specs.declared.Outcome.the-variants.{Done, Refused}
 use Rattle.refusal.specs.Number.{number, code}
@@ -13,6 +11,7 @@ use Rattle.sample.specs.declared.Sample.{Sample}
 use Rattle.sample.specs.Samples.{Samples, store}
 use Rattle.geometry.specs.Spoiler.{Spoiler}
 use Rattle.sizes.specs.declared.Sizes.{Sizes}
+use Rattle.sizes.specs.Setup.{kept, heldWith}
 use Rattle.checks.specs.Numbers.{StartNumber, PutNumber, AskNumber, ReadNumber}
 use Rattle.costs.specs.Costs.{Permit, CellsWritten, named}
 use Rattle.readout.specs.Read.{RanksRead}
@@ -28,10 +27,6 @@ abbrev pub sizes : Trace → Sizes
 sizes a = record { levels = a .levels; capacity = a .capacity; held = a .held; tolerances = a .tolerances }
 
 -- ---- start
--- the first m tolerances, then zeros up to 16
-abbrev pub kept : ℕ → List ℕ → List ℕ
-kept m tols = take m tols ++ replicate (16 - m) 0
-
 abbrev pub emptyTrace : ℕ → ℕ → List ℕ → Trace
 emptyTrace m N tols = record { levels = m; capacity = N; held = 0; tolerances = kept m tols }
 
@@ -51,10 +46,6 @@ pub record Buffers : Type 0 where
 
 abbrev pub buffers : Samples → List ℕ → Buffers
 buffers xs t = record { samples = xs; table = t }
-
--- how many samples are held once sample v is put among n: as many for a correction, where v is below n, and one more for an addition, where v is n
-abbrev pub heldWith : ℕ → ℕ → ℕ
-heldWith n v = cond (ltb v n) n (n + 1)
 
 -- the trace with n samples
 abbrev pub holding : Trace → ℕ → Trace

@@ -1,4 +1,3 @@
 pub mod Calls
 pub mod Upload
 pub mod Alike
-pub mod Change

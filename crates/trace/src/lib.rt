@@ -1,19 +1,19 @@
 // A trace's setup, and the public calls on a trace: each checks its row of refusals, then acts.
 ghost use mathlib.Core.Path.{_≡_};
-ghost use Prim.Native.Nat.{_*_, _≤_, _<_};
+ghost use Prim.Native.Nat.{_<_};
 ghost use lib.ListN.{length};
-ghost use Rattle.sample.specs.Samples.{sample, samples};
+ghost use Rattle.sample.specs.Samples.{samples};
 ghost use Rattle.checks.specs.Numbers.{OneLength};
-ghost use Rattle.checks.specs.Rows.{Passed, PassedTable};
-ghost use Rattle.sizes.specs.Setup.{kept};
-ghost use Rattle.trace.specs.Calls.{sizes, buffers, heldWith, StartGives, PutGives, AskGives, ReadGives};
+ghost use Rattle.checks.specs.Rows.{traceOutcome, Passed, PassedTable};
+ghost use Rattle.trace.specs.Calls.{sizes, buffers, StartGives, PutGives, AskGives, ReadGives};
 ghost use Rattle.trace.specs.Upload.{zipped, Puts, UploadGives};
-ghost use Rattle.trace.specs.Change.{Ready, Changes};
 use checks::Lengths;
-use checks::Sizes;
 use geometry::Verdict;
 use refusal::Outcome;
 use refusal::Refusal;
+use refusal::and_then;
+use sample::Sample;
+use sizes::Sizes;
 
 // A trace's setup: levels m, capacity N, samples held n, and the tolerances of levels 1 to m; those past m are never read.
 pub struct Trace {
@@ -66,38 +66,24 @@ pub struct Levels {
 
 // The ranges.
 impl Trace {
-    pub const LEVELS_LEAST: usize = checks::LEVELS_LEAST;
+    pub const LEVELS_LEAST: usize = sizes::LEVELS_LEAST;
 
-    pub const LEVELS_MOST: usize = checks::LEVELS_MOST;
+    pub const LEVELS_MOST: usize = sizes::LEVELS_MOST;
 
-    pub const CAPACITY_LEAST: usize = checks::CAPACITY_LEAST;
+    pub const CAPACITY_LEAST: usize = sizes::CAPACITY_LEAST;
 
-    pub const CAPACITY_MOST: usize = checks::CAPACITY_MOST;
+    pub const CAPACITY_MOST: usize = sizes::CAPACITY_MOST;
 
-    pub const COORDINATE_LEAST: i16 = geometry::COORDINATE_LEAST;
+    pub const COORDINATE_LEAST: i16 = sample::COORDINATE_LEAST;
 
-    pub const COORDINATE_MOST: i16 = geometry::COORDINATE_MOST;
+    pub const COORDINATE_MOST: i16 = sample::COORDINATE_MOST;
 
     // The mark of the first sample of a new boot; that of any other is 0.
-    pub const MARKED: u8 = geometry::MARKED;
+    pub const MARKED: u8 = sample::MARKED;
 
-    pub const TOLERANCE_LEAST: u32 = checks::TOLERANCE_LEAST;
+    pub const TOLERANCE_LEAST: u32 = sizes::TOLERANCE_LEAST;
 
-    pub const TOLERANCE_MOST: u32 = checks::TOLERANCE_MOST;
-}
-
-// The first m tolerances, and zeros after them.
-fn keep(m: usize, tolerances: [u32; 16]) -> [u32; 16]
-    requires { ⌜ m ≤ 16 ⌝ }
-    ensures { λ r. ⌜ r ≡ kept m tolerances ⌝ }
-{
-    let mut out: [u32; 16] = [0; 16];
-    let mut l = 0;
-    while l < m {
-        out[l] = tolerances[l];
-        l += 1;
-    }
-    out
+    pub const TOLERANCE_MOST: u32 = sizes::TOLERANCE_MOST;
 }
 
 // The calls.
@@ -115,73 +101,22 @@ impl Trace {
         }
     }
 
-    // How many samples are held once sample v is put.
-    fn held_with(self, v: usize) -> usize
-        requires { ⌜ self .held ≤ 256 ⌝ }
-        ensures { λ r. ⌜ r ≡ heldWith (self .held) v ⌝ }
-    {
-        if v < self.held {
-            return self.held;
-        }
-        self.held + 1
-    }
-
-    // Make sample v (x, y) with this mark, of n samples then held, and rewrite the cells of the stretches with it.
-    fn change(
-        self,
-        xs: &mut [i16],
-        ys: &mut [i16],
-        marks: &mut [u8],
-        table: &mut [u16],
-        v: usize,
-        n: usize,
-        x: i16,
-        y: i16,
-        mark: u8,
-    ) -> Changed
-        requires { ⌜ Ready self (samples (now xs) (now ys) (now marks)) (now table) v n (sample x y mark) ⌝ }
-        ensures { λ r. ⌜ Changes self (samples (now (xs .entry)) (now (ys .entry)) (now (marks .entry))) (now (table .entry)) v n (sample x y mark) r (samples (now (xs .exit)) (now (ys .exit)) (now (marks .exit))) (now (table .exit)) ⌝ }
-    {
-        xs[v] = x;
-        ys[v] = y;
-        marks[v] = mark;
-        let tolerances = self.tolerances;
-        let cells = costs::rewrite(
-            table,
-            xs,
-            ys,
-            marks,
-            &tolerances,
-            self.capacity,
-            self.levels,
-            v,
-            n,
-        );
-        let mut next = self;
-        next.held = n;
-        Changed {
-            outcome: Outcome::Done,
-            trace: next,
-            cells,
-        }
-    }
-
-    // put where checks 1 to 5 have passed: the sample alone is checked.
+    // put, after checks 1 to 5 and by what they said: the sample is checked, and the trace is changed.
     fn admit(
         self,
+        first: Outcome,
         xs: &mut [i16],
         ys: &mut [i16],
         marks: &mut [u8],
         table: &mut [u16],
         v: usize,
-        x: i16,
-        y: i16,
-        mark: u8,
+        sample: Sample,
     ) -> Changed
-        requires { ⌜ Passed (sizes self) (samples (now xs) (now ys) (now marks)) × PassedTable (sizes self) (now table) ⌝ }
-        ensures { λ r. ⌜ PutGives self (buffers (samples (now (xs .entry)) (now (ys .entry)) (now (marks .entry))) (now (table .entry))) v (sample x y mark) r (buffers (samples (now (xs .exit)) (now (ys .exit)) (now (marks .exit))) (now (table .exit))) ⌝ }
+        requires { ⌜ first ≡ traceOutcome (sizes self) (samples (now xs) (now ys) (now marks)) (now table) ⌝ }
+        ensures { λ r. ⌜ PutGives self (buffers (samples (now (xs .entry)) (now (ys .entry)) (now (marks .entry))) (now (table .entry))) v sample r (buffers (samples (now (xs .exit)) (now (ys .exit)) (now (marks .exit))) (now (table .exit))) ⌝ }
     {
-        let o = checks::sample_outcome(self.sizes(), v, x, y, mark);
+        let own = checks::sample_outcome(self.sizes(), v, sample);
+        let o = and_then(first, own);
         let Outcome::Done = o else {
             return Changed {
                 outcome: o,
@@ -189,8 +124,15 @@ impl Trace {
                 cells: 0,
             };
         };
-        let n = self.held_with(v);
-        self.change(xs, ys, marks, table, v, n, x, y, mark)
+        let mut next = self;
+        let n = sizes::held_with(self.held, v);
+        next.held = n;
+        let cells = change::change(next.sizes(), xs, ys, marks, table, v, sample);
+        Changed {
+            outcome: Outcome::Done,
+            trace: next,
+            cells,
+        }
     }
 
     // Put the samples of lists of one length one by one at the end, up to the first refused. A sample put leaves a trace that passes checks 1 to 5, so these are made once, by the caller.
@@ -214,7 +156,13 @@ impl Trace {
         while i < across.len() {
             let x = across[i];
             let y = up[i];
-            let next = trace.admit(xs, ys, marks, table, trace.held, x, y, restarts[i]);
+            let mark = restarts[i];
+            let sample = Sample {
+                across: x,
+                up: y,
+                mark,
+            };
+            let next = trace.admit(Outcome::Done, xs, ys, marks, table, trace.held, sample);
             let after = i + 1;
             let o = next.outcome;
             if let Outcome::Refused(why) = o {
@@ -241,7 +189,7 @@ impl Trace {
     pub fn start(levels: usize, capacity: usize, tolerances: [u32; 16]) -> Started
         ensures { λ r. ⌜ StartGives levels capacity tolerances r ⌝ }
     {
-        let o = checks::setup_outcome(levels, capacity, tolerances);
+        let o = sizes::setup_outcome(levels, capacity, tolerances);
         let Outcome::Done = o else {
             return Started {
                 outcome: o,
@@ -253,7 +201,7 @@ impl Trace {
                 },
             };
         };
-        let tolerances = keep(levels, tolerances);
+        let tolerances = sizes::keep(levels, tolerances);
         Started {
             outcome: o,
             trace: Trace {
@@ -273,21 +221,12 @@ impl Trace {
         marks: &mut [u8],
         table: &mut [u16],
         v: usize,
-        x: i16,
-        y: i16,
-        mark: u8,
+        sample: Sample,
     ) -> Changed
-        ensures { λ r. ⌜ PutGives self (buffers (samples (now (xs .entry)) (now (ys .entry)) (now (marks .entry))) (now (table .entry))) v (sample x y mark) r (buffers (samples (now (xs .exit)) (now (ys .exit)) (now (marks .exit))) (now (table .exit))) ⌝ }
+        ensures { λ r. ⌜ PutGives self (buffers (samples (now (xs .entry)) (now (ys .entry)) (now (marks .entry))) (now (table .entry))) v sample r (buffers (samples (now (xs .exit)) (now (ys .exit)) (now (marks .exit))) (now (table .exit))) ⌝ }
     {
         let o = checks::trace_outcome(self.sizes(), xs, ys, marks, table);
-        let Outcome::Done = o else {
-            return Changed {
-                outcome: o,
-                trace: self,
-                cells: 0,
-            };
-        };
-        self.admit(xs, ys, marks, table, v, x, y, mark)
+        self.admit(o, xs, ys, marks, table, v, sample)
     }
 
     // The samples of three lists, each put at the end, up to the first refused; those before it stay. Empty lists check nothing.

@@ -19,23 +19,23 @@ finests-requires c κs = search needs
 
 write-rows-requires : tie.Need-write-rows-requires
 write-rows-requires c κs =
-    let s = c .before .before .before in
+    let s = c .before .before .before .before .before in
     let a = s .before .before .before .args in
     let p = s .before .before .before .pre in
     let e : s .starts .result ≡ min (a .j) (a .v + 1) = s .starts .ensures in
-    (omega arith, (p .1 .0 .2, (λ k x u w z o. p .1 .1 k x u w z (⊎-elim (λ y. inl y) (λ y. inr (omega arith)) o), λ x u w. finest-near (perm (samples (a .xs .now) (a .ys .now) (a .marks .now)) (a .tolerances .now)) (perm-adjacent (samples (a .xs .now) (a .ys .now) (a .marks .now)) (a .tolerances .now)) _ _ _ _ (c .before .before .finests .ensures x w) u (omega arith))))
+    (omega arith, (p .1 .0 .2, (λ k x u w z o. p .1 .1 k x u w z (⊎-elim (λ y. inl y) (λ y. inr (omega arith)) o), λ x u w. finest-near (perm (samples (a .xs .now) (a .ys .now) (a .marks .now)) (a .s .tolerances)) (perm-adjacent (samples (a .xs .now) (a .ys .now) (a .marks .now)) (a .s .tolerances)) _ _ _ _ (c .before .before .finests .ensures x w) u (omega arith))))
 
 same-length : tie.Need-same-length
 same-length c = search needs
 
 returns : tie.Need-returns
 returns c =
-    let s = c .before .before .before .before .before .before in
+    let s = c .before .before .before .before .before .before .before .before in
     let a = s .before .before .before .args in
     let e : s .starts .result ≡ min (a .j) (a .v + 1) = s .starts .ensures in
     let f = c .before .before .before .before .before .finests .ensures in
     let w = c .before .before .write-rows .ensures in
-    (rw e at (w .0), rw e at (rows-said _ (perm (samples (a .xs .now) (a .ys .now) (a .marks .now)) (a .tolerances .now)) _ _ _ _ _ _ (omega arith) (omega arith) f (w .1)))
+    (rw e at (w .0), rw e at (rows-said _ (perm (samples (a .xs .now) (a .ys .now) (a .marks .now)) (a .s .tolerances)) _ _ _ _ _ _ (omega arith) (omega arith) f (w .1)))
 
 pub write-end-spec : {M : Type 1} → statement M
 write-end-spec =

@@ -1,5 +1,5 @@
 -- `trace::Trace::add_each` meets its contract. The invariant: i samples are on their way. The measure is how many are left. Assumes nothing.
-use mathlib.Core.Path.{refl}
+use mathlib.Core.Path.{refl, sym}
 use Prim.Native.Nat.{_-_, _<_}
 use native.Mathlib.Omega.{arith}
 use lib.IntN.{pos}
@@ -8,6 +8,7 @@ use mir.Syntax.{w16}
 use mir.Facts.{toZ-ofZ}
 use borrow.Author.Needs.{needs}
 use Rattle.sample.specs.Samples.{samples}
+use Rattle.checks.proofs.Passed.{trace-passed}
 use Rattle.trace.specs.Calls.{buffers, PutGives}
 use Rattle.trace.specs.Upload.{zipped}
 use Rattle.trace.proofs.Upload.{noSample, zipped-length, zipped-at, Underway, underway-none, next-few, underway-more, underway-stops, underway-ends}
@@ -38,7 +39,7 @@ next : (c : tie.After-admit Inv-loop μ-loop) →
     let i = c .before .before .before .before .before .before .before .before .before .loop in
     let a = c .before .before .before .before .before .before .before .before .before .before .before .before .before .args in
     PutGives (i .trace) (buffers (samples (i .xs) (i .ys) (i .marks)) (i .table)) (i .trace .held) (getD (zipped (a .across .now) (a .up .now) (a .restarts .now)) (i .i) noSample) (c .admit .result)
-    (buffers (samples (c .admit .last .1 .0) (c .admit .last .1 .1 .0) (c .admit .last .1 .1 .1 .0)) (c .admit .last .1 .1 .1 .1 .0))
+    (buffers (samples (c .admit .last .1 .1 .0) (c .admit .last .1 .1 .1 .0) (c .admit .last .1 .1 .1 .1 .0)) (c .admit .last .1 .1 .1 .1 .1 .0))
 next c =
     let l = c .before .before .before .before .before .before .before .before in
     let i = l .before .loop in
@@ -60,13 +61,13 @@ mul-y c = search needs
 shared-slice-copy-out-y : tie.Need-shared-slice-copy-out-y Inv-loop μ-loop
 shared-slice-copy-out-y c = search needs
 
-shared-slice-read-admit : tie.Need-shared-slice-read-admit Inv-loop μ-loop
-shared-slice-read-admit c = search needs
+shared-slice-read-mark : tie.Need-shared-slice-read-mark Inv-loop μ-loop
+shared-slice-read-mark c = search needs
 
 admit-requires : tie.Need-admit-requires Inv-loop μ-loop
 admit-requires c κs =
     let l = c .before .before .before .before .before .before .before in
-    l .before .loop .inv .ready (left l)
+    sym (trace-passed _ _ _ .1 (l .before .loop .inv .ready (left l)))
 
 add-after : tie.Need-add-after Inv-loop μ-loop
 add-after c =
@@ -145,7 +146,7 @@ add-each-spec =
     shared-slice-copy-out-x
     mul-y
     shared-slice-copy-out-y
-    shared-slice-read-admit
+    shared-slice-read-mark
     admit-requires
     add-after
     enum-known-o

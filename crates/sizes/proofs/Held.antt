@@ -5,8 +5,7 @@ use Prim.Native.Nat.{ℕ, _+_, _≤_, _<_}
 use native.Mathlib.Nat.{eq-or-lt-of-le}
 use native.Mathlib.Omega.{arith}
 use borrow.Author.Tests.{lt-ltb, le-ltb}
-use Rattle.costs.proofs.Exit.{Others}
-use Rattle.trace.specs.Calls.{heldWith}
+use Rattle.sizes.specs.Setup.{heldWith}
 
 pub held-corrected : (n v : ℕ) → v < n → heldWith n v ≡ n
 held-corrected n v h = rw (lt-ltb v n h) refl
@@ -27,5 +26,5 @@ pub held-room : (n v N : ℕ) → n ≤ N → v ≤ n → v < N → heldWith n v
 held-room n v N h o l = ⊎-elim (λ p. omega arith) (λ p. omega arith) (held-either n v o)
 
 -- and all but v were held before
-pub held-others : (n v : ℕ) → v ≤ n → Others v n (heldWith n v)
+pub held-others : (n v : ℕ) → v ≤ n → (q : ℕ) → q < heldWith n v → (q ≡ v → ⊥) → q < n
 held-others n v h q l d = ⊎-elim (λ p. omega arith) (λ p. omega arith) (held-either n v h)

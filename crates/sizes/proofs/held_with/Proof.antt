@@ -1,10 +1,10 @@
--- `trace::Trace::held_with` meets its contract. Assumes nothing.
+-- `sizes::held_with` meets its contract. Assumes nothing.
 use mathlib.Core.Path.{sym}
 use native.Mathlib.Omega.{arith}
 use borrow.Author.Needs.{needs}
-use Rattle.trace.proofs.Held.{held-corrected, held-added}
-use Rattle.trace.proofs.Trace.held_with.Statement.{statement}
-use Rattle.trace.proofs.Trace.held_with.Tie as tie
+use Rattle.sizes.proofs.Held.{held-corrected, held-added}
+use Rattle.sizes.proofs.held_with.Statement.{statement}
+use Rattle.sizes.proofs.held_with.Tie as tie
 
 returns : tie.Need-returns
 returns c = sym (held-corrected _ _ (omega arith))
