@@ -7,7 +7,8 @@ use Rattle.geometry.specs.Nearest.{nearest}
 use Rattle.geometry.specs.Test.{reaches, lowest, judged, permits}
 use Rattle.family.specs.Family.{cells, value, below, least, least-by, via, hop, next, along, rank, total, segments}
 use Rattle.costs.specs.Walk.{perm}
-use Rattle.record.specs.Record.{word, signed, signedAt, counter, editionOk, spareOk, fieldsOk, recordOutcome}
+use Rattle.words.specs.Word.{word, long, signed, signedAt}
+use Rattle.record.specs.Record.{counter, editionOk, spareOk, fieldsOk, recordOutcome}
 use Rattle.record.specs.Pause.{fileLengthOk, recordsOutcome, fileOutcome, oldIncrease, difference, bothWithBoot, increase, increaseAt, pauseSum, pauseLineOf}
 use Rattle.starred.specs.Cases.{All, starred}
 use Rattle.starred.proofs.Worked.{AllWorked, all-hold}
@@ -18,7 +19,7 @@ a and b = (a, b)
 
 worked : AllWorked starred
 unfolding coordinatesOk coordinateOk marked perm permits judged lowest allBelow reaches nearest cells value below least least-by via hop next along rank total segments
-    pauseLineOf fileOutcome fileLengthOk recordsOutcome recordOutcome counter editionOk spareOk fieldsOk word signed signedAt
+    pauseLineOf fileOutcome fileLengthOk recordsOutcome recordOutcome counter editionOk spareOk fieldsOk word long signed signedAt
     oldIncrease difference bothWithBoot increase increaseAt pauseSum
 worked =
     -- stretches

@@ -31,7 +31,6 @@ use Rattle.checks.proofs.Numbers.{read-number}
 use Rattle.checks.specs.Rows.{Passed, PassedTable}
 use Rattle.checks.proofs.Exactly.{read-rows}
 use Rattle.starred.specs.Cases.{buffered, PermitOf, listed, Ranked, Case, permitted, not-permitted, serves, ranked, costs, two-samples, one-sample, paused, Holds, All}
-use Rattle.trace.specs.Calls.{sizes}
 
 -- the test of a stretch
 abbrev permOf : List Sample → List ℕ → ℕ → ℕ → ℕ → Bool
@@ -143,17 +142,17 @@ one : Holds (one-sample 9)
 one a xs t rank H k =
     let e : a .held ≡ 1 = H .one in
     let s = H .sized in
-    let P : Passed (sizes a) xs = record {
+    let P : Passed a xs = record {
       sized = s;
       tolerances = H .tolerances;
       lent = H .lent .0;
       held = omega (arith, s .2);
       stored = λ q h. let f : q ≡ 0 = omega arith in rw f (H .sample);
     } in
-    let Q : PassedTable (sizes a) t = record { room = H .lent .1; cells = λ ℓ i j u v o h. absurd (omega arith) } in
-    let nine : (n : ℕ) → ReadNumber (sizes a) xs t rank n → n ≡ 9 = λ n h. read-rows (sizes a) xs t rank h .row-9 .1 ((P, Q, omega (arith, H .lent .2)), omega arith) in
-    let r = read-number (sizes a) xs t rank in
-    (nine k, λ g. subst (ReadNumber (sizes a) xs t rank) (nine _ r ∙ sym g) r)
+    let Q : PassedTable a t = record { room = H .lent .1; cells = λ ℓ i j u v o h. absurd (omega arith) } in
+    let nine : (n : ℕ) → ReadNumber a xs t rank n → n ≡ 9 = λ n h. read-rows a xs t rank h .row-9 .1 ((P, Q, omega (arith, H .lent .2)), omega arith) in
+    let r = read-number a xs t rank in
+    (nine k, λ g. subst (ReadNumber a xs t rank) (nine _ r ∙ sym g) r)
 
 -- what is worked out for a case
 abbrev pub Worked : Case → Type 0

@@ -12,11 +12,10 @@ use Rattle.sample.specs.Samples.{Samples, sample, samples, sampleAt}
 use Rattle.family.specs.Levels.{Minimal, Chosen, Cost, size, ranks}
 use Rattle.costs.specs.Costs.{Permit}
 use Rattle.record.specs.Pause.{pauseLineOf}
-use Rattle.trace.specs.declared.Trace.{Trace}
+use Rattle.sizes.specs.declared.Sizes.{Sizes}
 use Rattle.sample.specs.Valid.{Valid}
 use Rattle.sizes.specs.Setup.{Sized, Tolerances}
 use Rattle.checks.specs.Numbers.{LentSamples, LentTable, ReadNumber}
-use Rattle.trace.specs.Calls.{sizes}
 
 -- a sample, across and up: at 13 4, and plain (minus 3) (pos 4) where a coordinate is below zero; with a mark, restart 20 0
 abbrev pub plain : ℤ → ℤ → Sample
@@ -52,11 +51,11 @@ pub record Ranked (s : List Sample) (tols rank : List ℕ) (total : ℕ) : Type 
   pub total-is : size levels (length tols) ≡ total
 
 -- a trace that holds one sample, and all that a read asks for
-pub record OneHeld (a : Trace) (xs : Samples) (t rank : List ℕ) : Type 0 where
+pub record OneHeld (a : Sizes) (xs : Samples) (t rank : List ℕ) : Type 0 where
   pub one : a .held ≡ 1
   pub sized : Sized (a .levels) (a .capacity)
   pub tolerances : Tolerances (a .levels) (a .tolerances)
-  pub lent : LentSamples (sizes a) xs × LentTable (sizes a) t × (1 ≤ length rank)
+  pub lent : LentSamples a xs × LentTable a t × (1 ≤ length rank)
   pub sample : Valid (sampleAt xs 0)
 
 -- a file with a record for each counter, all else zero
@@ -90,7 +89,7 @@ Holds (serves s e q) = Minimal (PermitOf s (e ∷ [])) 1 0 (length s - 1) (λ �
 Holds (ranked s tols rank total) = Ranked s tols rank total
 Holds (costs s tols k i j v) = Cost (PermitOf s tols) k i j v
 Holds two-samples = (a b : Sample) (tols : List ℕ) → length tols ≤ 16 → Ranked (a ∷ b ∷ []) tols (length tols ∷ length tols ∷ []) (length tols)
-Holds (one-sample number) = (a : Trace) (xs : Samples) (t rank : List ℕ) → OneHeld a xs t rank → (k : ℕ) → ReadNumber (sizes a) xs t rank k ↔ (k ≡ number)
+Holds (one-sample number) = (a : Sizes) (xs : Samples) (t rank : List ℕ) → OneHeld a xs t rank → (k : ℕ) → ReadNumber a xs t rank k ↔ (k ≡ number)
 Holds (paused counters line) = pauseLineOf (file counters) ≡ record { outcome = Done; sum = line }
 
 abbrev pub All : List Case → Type 0
