@@ -15,7 +15,7 @@ use Rattle.family.specs.Levels.{size, ranks}
 use Rattle.family.proofs.Choices.{chosen-one}
 use Rattle.family.proofs.Levels.{ranks-in}
 use Rattle.record.specs.Record.{across, up}
-use Rattle.record.specs.Pause.{pauseSum}
+use Rattle.pause.specs.Pause.{pauseSum}
 use Rattle.record.specs.Plain.{RecordsGiven, Misfit, FileGiven, Placed}
 use Rattle.record.proofs.Plain.{file-one}
 use Rattle.record.proofs.Exactly.{file-rows}

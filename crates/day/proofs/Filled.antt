@@ -16,8 +16,8 @@ use Rattle.refusal.specs.Check.{First, allBelow}
 use Rattle.refusal.proofs.Rows.{code-one, first-passed, first-same, numbered}
 use Rattle.sample.specs.Samples.{Samples}
 use Rattle.sample.specs.Sweep.{Ranged}
-use Rattle.record.specs.Pause.{pauseLineOf}
-use Rattle.record.proofs.Marks.{mark-small}
+use Rattle.pause.specs.Pause.{pauseLineOf}
+use Rattle.pause.proofs.Marks.{mark-small}
 use Rattle.trace.specs.declared.Trace.{Trace}
 use Rattle.trace.specs.declared.Started.{Started}
 use Rattle.trace.specs.declared.Changed.{Changed}

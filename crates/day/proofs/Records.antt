@@ -14,10 +14,10 @@ use Rattle.sample.proofs.Coordinate.{coordinate-decided}
 use Rattle.sample.proofs.Move.{narrow}
 use Rattle.record.specs.declared.Decoded.{Decoded}
 use Rattle.record.specs.Record.{across, up, decodeOf, decodedBy}
-use Rattle.record.specs.Pause.{recordBytes, pauseLineOf, pauseSum}
+use Rattle.pause.specs.Pause.{recordBytes, pauseLineOf, pauseSum}
 use Rattle.record.specs.Plain.{Placed, RecordGiven, FileGiven}
-use Rattle.record.proofs.Bytes.{decode-alone}
-use Rattle.record.proofs.Pause.{file-good, line-by}
+use Rattle.pause.proofs.Bytes.{decode-alone}
+use Rattle.pause.proofs.Pause.{file-good, line-by}
 use Rattle.record.proofs.Plain.{record-given, file-given}
 use Rattle.day.specs.Day.{count}
 

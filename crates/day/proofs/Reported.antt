@@ -16,7 +16,7 @@ use Rattle.family.specs.Levels.{levels}
 use Rattle.family.proofs.Levels.{ranks-levels}
 use Rattle.readout.specs.Read.{rank}
 use Rattle.record.specs.declared.PauseLine.{PauseLine}
-use Rattle.record.specs.Pause.{pauseLineOf, pauseSum}
+use Rattle.pause.specs.Pause.{pauseLineOf, pauseSum}
 use Rattle.record.specs.Plain.{FileGiven}
 use Rattle.record.proofs.Plain.{file-given}
 use Rattle.trace.specs.declared.Changed.{Changed}

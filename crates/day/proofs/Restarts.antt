@@ -8,8 +8,8 @@ use Rattle.family.specs.Levels.{ranks}
 use Rattle.family.proofs.Levels.{ranks-in}
 use Rattle.costs.proofs.Meaning.{marked-held}
 use Rattle.record.specs.Plain.{Restarted}
-use Rattle.record.specs.Restart.{markAt}
-use Rattle.record.proofs.Marks.{mark-exactly}
+use Rattle.pause.specs.Restart.{markAt}
+use Rattle.pause.proofs.Marks.{mark-exactly}
 use Rattle.day.specs.Day.{count, sampleOf, samplesOf, tolerances, DayLevels}
 use Rattle.day.proofs.Listed.{listed-at}
 

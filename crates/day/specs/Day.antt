@@ -11,9 +11,9 @@ use Rattle.sample.specs.Samples.{Samples, sample, samples}
 use Rattle.family.specs.Levels.{Chosen, size, ranks}
 use Rattle.costs.specs.Costs.{Permit}
 use Rattle.record.specs.Record.{across, up}
-use Rattle.record.specs.Pause.{pauseSum}
+use Rattle.pause.specs.Pause.{pauseSum}
 use Rattle.record.specs.Plain.{FileGiven}
-use Rattle.record.specs.Restart.{markAt}
+use Rattle.pause.specs.Restart.{markAt}
 use Rattle.text.specs.Text.{decimal, signedDecimal, Written}
 
 -- how many records a file has

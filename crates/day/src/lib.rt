@@ -6,7 +6,7 @@ ghost use lib.ListN.{length, getD};
 ghost use Rattle.refusal.specs.declared.Outcome.the-variants.{Done};
 ghost use Rattle.refusal.specs.Number.{code};
 ghost use Rattle.sample.specs.Samples.{samples};
-ghost use Rattle.record.specs.Pause.{pauseLineOf, pauseSum};
+ghost use Rattle.pause.specs.Pause.{pauseLineOf, pauseSum};
 ghost use Rattle.trace.specs.Calls.{PutGives, buffers};
 ghost use Rattle.text.specs.Text.{Written, decimal};
 ghost use Rattle.day.specs.Day.{count, sampleOf, tolerances as dayTolerances, refusedLine, countsLine, sampleLine, countedLine, pauseText, Reported};

@@ -1,9 +1,4 @@
 pub mod Record
-pub mod Increase
-pub mod Marks
-pub mod Pause
 pub mod Plain
-pub mod Bytes
-pub mod Samples
 pub mod Examples
 pub mod Exactly

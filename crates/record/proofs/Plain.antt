@@ -1,4 +1,4 @@
--- A record and a file are given exactly the number of the plain statements, whatever their bytes. Assumes nothing.
+-- A record is given exactly the number of the plain statements, whatever its bytes. Assumes nothing.
 use mathlib.Core.Path.{_≡_, refl, sym, subst, _∙_}
 use mathlib.Core.Logic.{_⊎_, inl, inr, ⊎-elim}
 use mathlib.Core.Bool.{true, false, _&&_}
@@ -21,10 +21,8 @@ use Rattle.refusal.proofs.Rows.{first-row, first-one, numbered}
 use Rattle.sample.specs.Coordinate.{coordinateOk}
 use Rattle.sample.proofs.Coordinate.{coordinate-decided}
 use Rattle.record.specs.Record.{across, up, rank, boot, edition, editionOk, spareOk, fieldsOk, recordOutcome, decodeOutcome, decodeOf}
-use Rattle.record.specs.Pause.{fileLengthOk, recordsOutcome, fileOutcome, pauseLineOf}
-use Rattle.record.specs.Plain.{SpareSet, EditionWrong, Marred, RecordGiven, DecodeGiven, FirstRefused, RecordsGiven, FileGiven}
+use Rattle.record.specs.Plain.{SpareSet, EditionWrong, Marred, RecordGiven, DecodeGiven}
 use Rattle.record.proofs.Record.{decode-outcome}
-use Rattle.record.proofs.Pause.{line-outcome}
 
 -- ---- one record
 spare-right : (s : List ℕ) (p : ℕ) → spareOk s p ≡ true → SpareSet s p → ⊥
@@ -85,65 +83,11 @@ decode-given s =
     let d = by-equal (length s) 16 in
     rw (decode-outcome s) (first-row _ Length _ (RecordGiven s 0) (λ e n. n (d .right e)) (d .wrong) (record-given s 0))
 
--- ---- a file
-one-more : (s : List ℕ) (n : ℕ) (p q : Outcome) → RecordsGiven s n (code p) → RecordGiven s (16 * n) (code q) → RecordsGiven s (suc n) (code (andThen p q))
-one-more s n (Refused r) q h g =
-    ⊎-elim
-    (λ f. inl (record { at = f .at; below = omega (arith, f .below); before = f .before; given = f .given; refused = f .refused }))
-    (λ z. absurd (numbered r (z .1)))
-    h
-one-more s n Done (Refused r) h g =
-    ⊎-elim
-    (λ f. absurd (f .refused refl))
-    (λ z. inl (record { at = n; below = omega arith; before = z .0; given = g; refused = numbered r }))
-    h
-one-more s n Done Done h g =
-    ⊎-elim
-    (λ f. absurd (f .refused refl))
-    (λ z. inr (λ i l. ⊎-elim (λ e. subst (λ (k : ℕ). RecordGiven s (16 * k) 0) (sym e) g) (λ m. z .0 i m) (eq-or-lt-of-le (le-of-suc-le-suc l)), refl))
-    h
-
-records-given : (s : List ℕ) (n : ℕ) → RecordsGiven s n (code (recordsOutcome s n))
-unfolding recordsOutcome
-records-given s zero = inr (λ i l. absurd (not-suc-le-zero l), refl)
-records-given s (suc n) = one-more s n (recordsOutcome s n) (recordOutcome s (16 * n)) (records-given s n) (record-given s (16 * n))
-
-pub file-given : (s : List ℕ) → FileGiven s (code (pauseLineOf s .outcome))
-unfolding fileOutcome fileLengthOk
-file-given s =
-    let n = length s / 16 in
-    rw (line-outcome s)
-    (first-row _ Length _ (RecordsGiven s n)
-    (λ e. ⊎-elim (λ m. m (eqb-true (length s % 16) 0 (and-left _ (leb n 4096) e))) (λ l. not-le-of-lt l (leb-true n 4096 (and-right (eqb (length s % 16) 0) _ e))))
-    (λ e. ⊎-elim (λ t. inl (eqb-false (length s % 16) 0 t)) (λ t. inr (leb-false n 4096 t)) (and-fails (eqb (length s % 16) 0) (leb n 4096) e))
-    (records-given s n))
-
 -- ---- the plain statements leave no choice: two numbers that one of them gives are equal
-record-one : (s : List ℕ) (p j k : ℕ) → RecordGiven s p j → RecordGiven s p k → j ≡ k
+pub record-one : (s : List ℕ) (p j k : ℕ) → RecordGiven s p j → RecordGiven s p k → j ≡ k
 record-one s p =
     first-one 6 _ (First 11 (Marred s p) (λ k. k ≡ 0))
     (first-one 11 (Marred s p) (λ k. k ≡ 0) (λ j k x y. x ∙ sym y))
 
 pub decode-one : (s : List ℕ) (j k : ℕ) → DecodeGiven s j → DecodeGiven s k → j ≡ k
 decode-one s = first-one 10 _ (RecordGiven s 0) (record-one s 0)
-
-refused-one : (s : List ℕ) (n j k : ℕ) → FirstRefused s n j → FirstRefused s n k → j ≡ k
-refused-one s n j k x y =
-    elim (decLe (y .at) (x .at)) [
-      | yes m ↦
-          ⊎-elim
-          (λ e. record-one s _ j k (x .given) (subst (λ (i : ℕ). RecordGiven s (16 * i) k) e (y .given)))
-          (λ l. absurd (y .refused (record-one s _ k 0 (y .given) (x .before (y .at) l))))
-          (eq-or-lt-of-le m)
-      | no m ↦ absurd (x .refused (record-one s _ j 0 (x .given) (y .before (x .at) (lt-of-not-le m))))
-    ]
-
-pub records-one : (s : List ℕ) (n j k : ℕ) → RecordsGiven s n j → RecordsGiven s n k → j ≡ k
-records-one s n j k x y =
-    ⊎-elim
-    (λ a. ⊎-elim (refused-one s n j k a) (λ b. absurd (a .refused (record-one s _ j 0 (a .given) (b .0 (a .at) (a .below))))) y)
-    (λ a. ⊎-elim (λ b. absurd (b .refused (record-one s _ k 0 (b .given) (a .0 (b .at) (b .below))))) (λ b. a .1 ∙ sym (b .1)) y)
-    x
-
-pub file-one : (s : List ℕ) (j k : ℕ) → FileGiven s j → FileGiven s k → j ≡ k
-file-one s = first-one 10 _ (RecordsGiven s (length s / 16)) (records-one s (length s / 16))

@@ -1,4 +1,2 @@
 pub mod Record
-pub mod Pause
-pub mod Restart
 pub mod Plain

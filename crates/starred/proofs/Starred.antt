@@ -9,7 +9,7 @@ use Rattle.family.specs.Family.{cells, value, below, least, least-by, via, hop,
 use Rattle.costs.specs.Walk.{perm}
 use Rattle.words.specs.Word.{word, long, signed, signedAt}
 use Rattle.record.specs.Record.{counter, editionOk, spareOk, fieldsOk, recordOutcome}
-use Rattle.record.specs.Pause.{fileLengthOk, recordsOutcome, fileOutcome, oldIncrease, difference, bothWithBoot, increase, increaseAt, pauseSum, pauseLineOf}
+use Rattle.pause.specs.Pause.{fileLengthOk, recordsOutcome, fileOutcome, oldIncrease, difference, bothWithBoot, increase, increaseAt, pauseSum, pauseLineOf}
 use Rattle.starred.specs.Cases.{All, starred}
 use Rattle.starred.proofs.Worked.{AllWorked, all-hold}
 

@@ -11,7 +11,7 @@ use Rattle.sample.specs.declared.Sample.{Sample}
 use Rattle.sample.specs.Samples.{Samples, sample, samples, sampleAt}
 use Rattle.family.specs.Levels.{Minimal, Chosen, Cost, size, ranks}
 use Rattle.costs.specs.Costs.{Permit}
-use Rattle.record.specs.Pause.{pauseLineOf}
+use Rattle.pause.specs.Pause.{pauseLineOf}
 use Rattle.sizes.specs.declared.Sizes.{Sizes}
 use Rattle.sample.specs.Valid.{Valid}
 use Rattle.sizes.specs.Setup.{Sized, Tolerances}

@@ -2,7 +2,7 @@
 use borrow.Author.Needs.{needs}
 use mathlib.Core.Path.{refl, sym, ap, _∙_}
 use Rattle.record.specs.Record.{decodeOf}
-use Rattle.record.proofs.Marks.{mark-there}
+use Rattle.pause.proofs.Marks.{mark-there}
 use Rattle.day.proofs.Records.{good-sample}
 use Rattle.day.proofs.put_record.Statement.{statement}
 use Rattle.day.proofs.put_record.Tie as tie

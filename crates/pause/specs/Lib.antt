@@ -1,0 +1,3 @@
+pub mod Pause
+pub mod Restart
+pub mod Plain
