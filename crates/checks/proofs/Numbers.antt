@@ -87,15 +87,10 @@ unfolding putOutcome
 put-number a xs t v x =
     row-number _ _ (then-row _ _ (trace-row a xs t) (λ e. sample-row a v x (held-within a xs t e)))
 
--- which is tested in two steps: refused by 1 to 5, or, where these pass, as the sample is
-module _ (a : Sizes) (xs : Samples) (t : List ℕ) (v : ℕ) (x : Sample) where
-  pub put-stopped : {why : Refusal} → traceOutcome a xs t ≡ Refused why → PutNumber a xs t v x (number why)
-  unfolding putOutcome
-  put-stopped h = rw h at (put-number a xs t v x)
-
-  pub put-admitted : traceOutcome a xs t ≡ Done → PutNumber a xs t v x (code (sampleOutcome a v x))
-  unfolding putOutcome
-  put-admitted h = rw h at (put-number a xs t v x)
+-- where 1 to 5 refuse, so is the call
+pub put-stopped : (a : Sizes) (xs : Samples) (t : List ℕ) (v : ℕ) (x : Sample) {why : Refusal} → traceOutcome a xs t ≡ Refused why → PutNumber a xs t v x (number why)
+unfolding putOutcome
+put-stopped a xs t v x h = rw h at (put-number a xs t v x)
 
 pub ask-number : (a : Sizes) (xs : Samples) (k i j : ℕ) → AskNumber a xs k i j (code (askOutcome a xs k i j))
 unfolding askOutcome

@@ -1,25 +1,21 @@
 -- A file is given exactly the number of the plain statements, whatever its bytes; and these leave no choice. Assumes nothing.
 use mathlib.Core.Path.{_≡_, refl, sym, subst, _∙_}
-use mathlib.Core.Logic.{_⊎_, inl, inr, ⊎-elim}
-use mathlib.Core.Bool.{true, false, _&&_}
+use mathlib.Core.Logic.{inl, inr, ⊎-elim}
 use mathlib.Core.List.{List}
-use Prim.Native.Nat.{ℕ, zero, suc, _+_, _*_, _/_, _%_, _≤_}
+use Prim.Native.Nat.{ℕ, zero, suc, _*_, _/_, _%_}
 use native.Mathlib.Nat.{not-suc-le-zero, le-of-suc-le-suc, eq-or-lt-of-le, not-le-of-lt, lt-of-not-le}
 use native.Mathlib.Decide.{decLe}
 use native.Mathlib.Omega.{arith}
 use lib.Dec.{leb, eqb}
-use lib.ListN.{length, getD}
-use borrow.Author.Tests.{leb-true, leb-false, eqb-true, eqb-false, eq-eqb, ne-eqb}
-use Rattle.refusal.specs.declared.Refusal.the-variants.{Coordinate, Length, Record}
+use lib.ListN.{length}
+use borrow.Author.Tests.{leb-true, leb-false, eqb-true, eqb-false}
+use Rattle.refusal.specs.declared.Refusal.the-variants.{Length}
 use Rattle.refusal.specs.declared.Outcome.{Outcome}
 use Rattle.refusal.specs.declared.Outcome.the-variants.{Done, Refused}
 use Rattle.refusal.specs.Number.{code}
-use Rattle.refusal.specs.Check.{andThen, First}
-use Rattle.refusal.proofs.Laws.{and-left, and-right, and-fails, all-at, some-fails, need-done}
-use Rattle.refusal.proofs.Plain.{decided, by-equal, both-decided}
+use Rattle.refusal.specs.Check.{andThen}
+use Rattle.refusal.proofs.Laws.{and-left, and-right, and-fails}
 use Rattle.refusal.proofs.Rows.{first-row, first-one, numbered}
-use Rattle.sample.specs.Coordinate.{coordinateOk}
-use Rattle.sample.proofs.Coordinate.{coordinate-decided}
 use Rattle.record.specs.Record.{recordOutcome}
 use Rattle.record.specs.Plain.{RecordGiven}
 use Rattle.record.proofs.Plain.{record-given, record-one}

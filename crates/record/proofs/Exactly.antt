@@ -1,14 +1,14 @@
 -- Exactly when each number of the paper's table is given to a record: `k ≡ number ↔ (what passed before it) × (its row)`, and 0 where every check passes. Assumes nothing.
-use mathlib.Core.Path.{_≡_, refl, sym, subst, _∙_}
-use mathlib.Core.Logic.{_↔_, _⊎_, inl, inr, ⊎-elim}
+use mathlib.Core.Path.{_≡_}
+use mathlib.Core.Logic.{_↔_}
 use mathlib.Core.Bool.{_&&_}
 use mathlib.Core.List.{List}
-use Prim.Native.Nat.{ℕ, _*_, _/_, _<_}
+use Prim.Native.Nat.{ℕ}
 use native.Mathlib.Omega.{arith}
 use lib.ListN.{length}
 use Rattle.refusal.specs.Check.{Decides}
 use Rattle.refusal.proofs.Plain.{by-equal, both-decided}
-use Rattle.refusal.proofs.Rows.{first-passed, first-is, first-none, first-later, first-has}
+use Rattle.refusal.proofs.Rows.{first-is, first-none, first-later, first-has}
 use Rattle.sample.specs.Coordinate.{coordinateOk}
 use Rattle.sample.proofs.Coordinate.{coordinate-decided}
 use Rattle.record.specs.Record.{across, up}

@@ -1,23 +1,22 @@
 -- A record is given exactly the number of the plain statements, whatever its bytes. Assumes nothing.
-use mathlib.Core.Path.{_≡_, refl, sym, subst, _∙_}
-use mathlib.Core.Logic.{_⊎_, inl, inr, ⊎-elim}
+use mathlib.Core.Path.{_≡_, refl, sym, _∙_}
+use mathlib.Core.Logic.{inl, inr, ⊎-elim}
 use mathlib.Core.Bool.{true, false, _&&_}
 use mathlib.Core.List.{List}
-use Prim.Native.Nat.{ℕ, zero, suc, _+_, _*_, _/_, _%_, _≤_}
-use native.Mathlib.Nat.{not-suc-le-zero, le-of-suc-le-suc, eq-or-lt-of-le, not-le-of-lt, lt-of-not-le}
+use Prim.Native.Nat.{ℕ, _+_, _≤_}
+use native.Mathlib.Nat.{not-le-of-lt, lt-of-not-le}
 use native.Mathlib.Decide.{decLe}
 use native.Mathlib.Omega.{arith}
 use lib.Dec.{leb, eqb}
 use lib.ListN.{length, getD}
 use borrow.Author.Tests.{leb-true, leb-false, eqb-true, eqb-false, eq-eqb, ne-eqb}
 use Rattle.refusal.specs.declared.Refusal.the-variants.{Coordinate, Length, Record}
-use Rattle.refusal.specs.declared.Outcome.{Outcome}
-use Rattle.refusal.specs.declared.Outcome.the-variants.{Done, Refused}
+use Rattle.refusal.specs.declared.Outcome.the-variants.{Done}
 use Rattle.refusal.specs.Number.{code}
-use Rattle.refusal.specs.Check.{andThen, First}
-use Rattle.refusal.proofs.Laws.{and-left, and-right, and-fails, all-at, some-fails, need-done}
+use Rattle.refusal.specs.Check.{unless, First}
+use Rattle.refusal.proofs.Laws.{and-left, and-right, and-fails, all-at, some-fails, unless-done, then-done}
 use Rattle.refusal.proofs.Plain.{decided, by-equal, both-decided}
-use Rattle.refusal.proofs.Rows.{first-row, first-one, numbered}
+use Rattle.refusal.proofs.Rows.{first-row, first-one, test-row, unless-row, then-row, row-number}
 use Rattle.sample.specs.Coordinate.{coordinateOk}
 use Rattle.sample.proofs.Coordinate.{coordinate-decided}
 use Rattle.record.specs.Record.{across, up, rank, boot, edition, editionOk, spareOk, fieldsOk, recordOutcome, decodeOutcome, decodeOf}
@@ -64,14 +63,13 @@ pub record-given : (s : List ℕ) (p : ℕ) → RecordGiven s p (code (recordOut
 unfolding recordOutcome
 record-given s p =
     let d = both-decided (coordinateOk (across s p)) (coordinateOk (up s p)) (coordinate-decided (across s p)) (coordinate-decided (up s p)) in
-    first-row _ Coordinate _ (First 11 (Marred s p) (λ k. k ≡ 0)) (λ e n. n (d .right e)) (d .wrong)
-    (first-row _ Record Done (λ k. k ≡ 0) (fields-right s p) (fields-wrong s p) refl)
+    row-number _ _ (then-row _ _ (unless-row _ Coordinate d) (λ e. test-row _ Record (fields-right s p) (fields-wrong s p)))
 
 -- so a record that is not refused has no edition above 1
 pub good-edition : (s : List ℕ) (p : ℕ) → recordOutcome s p ≡ Done → edition s p ≤ 1
 unfolding recordOutcome
 good-edition s p h =
-    let t = need-done (fieldsOk s p) Record Done (need-done (coordinateOk (across s p) && coordinateOk (up s p)) Coordinate _ h .1) .0 in
+    let t = unless-done (fieldsOk s p) Record (then-done (unless (coordinateOk (across s p) && coordinateOk (up s p)) Coordinate) (unless (fieldsOk s p) Record) h .1) in
     elim (decLe (edition s p) 1) [
       | yes l ↦ l
       | no l ↦ absurd (fields-right s p t (inr (inl (inl (lt-of-not-le l)))))

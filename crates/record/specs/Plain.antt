@@ -2,11 +2,11 @@
 use mathlib.Core.Path.{_≡_}
 use mathlib.Core.Logic.{_⊎_}
 use mathlib.Core.List.{List}
-use Prim.Native.Nat.{ℕ, _+_, _*_, _/_, _%_, _≤_, _<_}
+use Prim.Native.Nat.{ℕ, _+_, _<_}
 use lib.ListN.{length, getD}
 use Rattle.refusal.specs.Check.{First}
 use Rattle.sample.specs.Coordinate.{Coord}
-use Rattle.record.specs.Record.{across, up, counter, rank, boot, edition}
+use Rattle.record.specs.Record.{across, up, rank, boot, edition}
 
 -- both coordinates of the record at place p are in range
 abbrev pub Placed : List ℕ → ℕ → Type 0

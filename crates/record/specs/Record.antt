@@ -8,7 +8,7 @@ use lib.ListN.{length, getD}
 use Rattle.refusal.specs.declared.Refusal.the-variants.{Coordinate, Length, Record}
 use Rattle.refusal.specs.declared.Outcome.{Outcome}
 use Rattle.refusal.specs.declared.Outcome.the-variants.{Done, Refused}
-use Rattle.refusal.specs.Check.{need, allBelow}
+use Rattle.refusal.specs.Check.{need, unless, andThen, allBelow}
 use Rattle.words.specs.Word.{word, long, signedAt}
 use Rattle.sample.specs.Coordinate.{coordinateOk}
 use Rattle.record.specs.declared.Decoded.{Decoded}
@@ -47,8 +47,8 @@ fieldsOk s p = leb (rank s p) 16 && (editionOk s p && spareOk s p)
 -- the record at place p: 6, then 11
 unfoldable pub recordOutcome : List ℕ → ℕ → Outcome
 recordOutcome s p =
-    need (coordinateOk (across s p) && coordinateOk (up s p)) (Refused Coordinate)
-    (need (fieldsOk s p) (Refused Record) Done)
+    andThen (unless (coordinateOk (across s p) && coordinateOk (up s p)) Coordinate)
+    (unless (fieldsOk s p) Record)
 
 -- one record alone: 10, then 6, then 11
 unfoldable pub decodeOutcome : List ℕ → Outcome

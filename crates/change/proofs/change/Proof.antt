@@ -1,5 +1,5 @@
 -- `change::change` meets its contract: the stores are `store`, and the walk does the rest. Assumes nothing.
-use mathlib.Core.Path.{_≡_, refl, ap₂}
+use mathlib.Core.Path.{_≡_, ap₂}
 use native.Mathlib.Omega.{arith}
 use lib.IntN.{ℤ}
 use lib.ListN.{set, length-set}
