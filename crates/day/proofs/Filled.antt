@@ -48,7 +48,8 @@ pub started : {r : Started} → StartGives 3 104 tolerances r → r .trace ≡ d
 started {r} G = G .done (code-one (r .outcome) Done (first-passed (λ n. n rising) (first-passed (λ n. n sized) (G .number))))
 
 -- of the numbers 1 to 5 none is given, where the buffers are lent and 5 is not possible
-pub past-trace : (c : Call) (n : ℕ) {Lent Stored R : Type 0} {k : ℕ} → n ≤ 104 → Lent → Possible c k → TraceNumber (sizes (dayTrace n)) Lent Stored (λ j. R) k → R
+pub past-trace : (c : Call) (n : ℕ) {Lent Stored R : Type 0} {k : ℕ} → n ≤ 104 → Lent → Possible c k
+    → TraceNumber (sizes (dayTrace n)) Lent Stored (λ j. R) k → R
 past-trace c n room lent p F =
     ⊎-elim (λ a. absurd (true≢false (subst (Possible c) (a .1) p))) (λ a. a .1)
     (first-passed (λ m. omega arith) (first-passed (λ m. m lent) (first-passed (λ m. m rising) (first-passed (λ m. m sized) F))))
@@ -65,7 +66,8 @@ filled-none s l = record {
 }
 
 -- a place more is stored
-stored : {A : Type 0} (z : A) (f : ℕ → A) (xs : List A) (n : ℕ) → n < length xs → ((q : ℕ) → q < n → getD xs q z ≡ f q) → (q : ℕ) → q < n + 1 → getD (set xs n (f n)) q z ≡ f q
+stored : {A : Type 0} (z : A) (f : ℕ → A) (xs : List A) (n : ℕ) → n < length xs
+    → ((q : ℕ) → q < n → getD xs q z ≡ f q) → (q : ℕ) → q < n + 1 → getD (set xs n (f n)) q z ≡ f q
 stored z f xs n room held =
     below-more _ n (λ q h. getD-set-other xs n q (f n) z (λ e. omega arith) ∙ held q h) (getD-set-same xs n (f n) z room)
 
@@ -107,7 +109,12 @@ module _ (s : List ℕ) (good : pauseLineOf s .outcome ≡ Done) (n : ℕ) {xs :
           P .trace,
           record {
             room = omega arith;
-            lent = rw (P .samples) (length-set (xs .across) n _ ∙ F .lent .0, length-set (xs .upward) n _ ∙ F .lent .1, length-set (xs .marks) n _ ∙ F .lent .2, P .cells .same ∙ F .lent .3);
+            lent = rw (P .samples) (
+              length-set (xs .across) n _ ∙ F .lent .0,
+              length-set (xs .upward) n _ ∙ F .lent .1,
+              length-set (xs .marks) n _ ∙ F .lent .2,
+              P .cells .same ∙ F .lent .3,
+            );
             across = rw (P .samples) (stored (pos 0) (λ q. sampleOf s q .across) (xs .across) n (omega (arith, F .lent .0)) (F .across));
             upward = rw (P .samples) (stored (pos 0) (λ q. sampleOf s q .upward) (xs .upward) n (omega (arith, F .lent .1)) (F .upward));
             marks = rw (P .samples) (stored 0 (λ q. sampleOf s q .mark) (xs .marks) n (omega (arith, F .lent .2)) (F .marks));
@@ -121,5 +128,6 @@ module _ (s : List ℕ) (good : pauseLineOf s .outcome ≡ Done) (n : ℕ) {xs :
       done = λ d. done-refused d h;
     }
 
-pub all-added : {s : List ℕ} {a : Trace} {xs : Samples} {t : List ℕ} → a ≡ dayTrace (count s) → Filled s (count s) xs t → AddsAll s (record { outcome = Done; trace = a; cells = 0 }) xs t
+pub all-added : {s : List ℕ} {a : Trace} {xs : Samples} {t : List ℕ} → a ≡ dayTrace (count s) → Filled s (count s) xs t
+    → AddsAll s (record { outcome = Done; trace = a; cells = 0 }) xs t
 all-added e F = record { number = inr (λ m. omega (arith, F .room), refl); done = λ d. (e, F) }

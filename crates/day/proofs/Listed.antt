@@ -56,9 +56,11 @@ module _ (s : List ℕ) (xs : Samples) (tols : List ℕ) (m n : ℕ) (ranged : R
 
   decides : (k i j : ℕ) → 1 ≤ k → k ≤ m → i < j → j < n → Decides (Permit (samplesOf s n) tols k i j) (perm xs tols k i j)
   decides k i j a b o h =
-      subst (Decides (Permit (samplesOf s n) tols k i j)) (sym (perm-same xs (samplesOf s n) tols k i j (same i j h))) (permissions (samplesOf s n) tols m n listed-ranged k i j a b o h)
+      subst (Decides (Permit (samplesOf s n) tols k i j)) (sym (perm-same xs (samplesOf s n) tols k i j (same i j h)))
+      (permissions (samplesOf s n) tols m n listed-ranged k i j a b o h)
 
-  pub chosen-listed : 0 < n → (r : ℕ → ℕ) → ((x : ℕ) → x < n → r x ≤ m) → Chosen (Permit xs tols) m 0 (n - 1) (levels r 0 (n - 1)) → Chosen (Permit (samplesOf s n) tols) m 0 (n - 1) (levels r 0 (n - 1))
+  pub chosen-listed : 0 < n → (r : ℕ → ℕ) → ((x : ℕ) → x < n → r x ≤ m) → Chosen (Permit xs tols) m 0 (n - 1) (levels r 0 (n - 1))
+      → Chosen (Permit (samplesOf s n) tols) m 0 (n - 1) (levels r 0 (n - 1))
   chosen-listed some r high C =
       chosen-levels (Permit (samplesOf s n) tols) (perm xs tols) m n decides some r high .0
       (chosen-levels (Permit xs tols) (perm xs tols) m n (permissions xs tols m n ranged) some r high .1 C)

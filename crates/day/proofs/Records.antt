@@ -41,7 +41,8 @@ module _ (s : List ℕ) (good : pauseLineOf s .outcome ≡ Done) where
     decoded = decode-alone s i h ∙ ap (λ (o : Outcome). decodedBy o s (16 * i)) (file-good s i good h)
 
     -- its coordinates, handed on by their bits
-    pub good-sample : (d : Decoded) → d ≡ decodeOf (recordBytes s i) → (toZ w16 (ofZ w16 (d .across)) ≡ across s (16 * i)) × (toZ w16 (ofZ w16 (d .up)) ≡ up s (16 * i))
+    pub good-sample : (d : Decoded) → d ≡ decodeOf (recordBytes s i)
+        → (toZ w16 (ofZ w16 (d .across)) ≡ across s (16 * i)) × (toZ w16 (ofZ w16 (d .up)) ≡ up s (16 * i))
     good-sample d e =
         let f = e ∙ decoded in
         (rw f (toZ-ofZ (narrow (good-placed .0))), rw f (toZ-ofZ (narrow (good-placed .1))))

@@ -1,9 +1,9 @@
--- `day::add_all` meets its contract. The invariant: the trace holds i samples, and these are the first i records. The measure is how many are left. Assumes nothing.
+-- `day::add_all` meets its contract. The invariant: the trace holds i samples, the first i records. The measure is how many are left. Assumes nothing.
 use mathlib.Core.Path.{_≡_, refl}
 use Prim.Native.Nat.{_-_, _≤_}
 use native.Mathlib.Omega.{arith}
 use borrow.Author.Needs.{needs}
-use Rattle.geometry.specs.Samples.{samples}
+use Rattle.geometry.specs.Samples.{Samples, samples}
 use Rattle.day.specs.Day.{count}
 use Rattle.day.specs.Fill.{dayTrace, Filled}
 use Rattle.day.proofs.Filled.{filled-none, filled-more, all-refused, all-added}
@@ -15,6 +15,10 @@ Inv-loop xs₀ ys₀ marks₀ table₀ file trace₀ i₀ xs ys marks table trac
 
 abbrev μ-loop : tie.MeasureT-loop
 μ-loop xs₀ ys₀ marks₀ table₀ file trace₀ i₀ xs ys marks table trace i = count file - i
+
+-- the samples that put_record leaves
+abbrev put-samples : tie.After-put-record Inv-loop μ-loop → Samples
+put-samples c = let l = c .put-record .last .1 in samples (l .0) (l .1 .0) (l .1 .1 .0)
 
 loop-holds : tie.Need-loop-holds Inv-loop μ-loop
 loop-holds c = let p = c .before .before .before .pre in (omega arith, p .1, filled-none _ (p .2))
@@ -42,8 +46,11 @@ same-length-4 c = search needs
 
 returns : tie.Need-returns Inv-loop μ-loop
 returns c =
-    let i = c .before .before .before .before .before .before .before .before .before .before .before .before .before .before .loop in
-    (all-refused _ (c .before .before .before .before .before .before .before .before .before .before .before .before .before .before .before .before .before .before .pre .0) _ (i .inv .2) (omega arith) (rw (i .inv .1) at (c .before .before .before .before .before .before .before .before .put-record .ensures .0)) _ (c .enum-told2 .given .1), refl)
+    let put = c .before .before .before .before .before .before .before .before in
+    let i = put .before .before .before .before .before .before .loop in
+    let good = put .before .before .before .before .before .before .before .before .before .before .pre .0 in
+    let g = rw (i .inv .1) at (put .put-record .ensures .0) in
+    (all-refused _ good _ (i .inv .2) (omega arith) {xs′ = put-samples put} g _ (c .enum-told2 .given .1), refl)
 
 add-i : tie.Need-add-i Inv-loop μ-loop
 add-i c = omega arith
@@ -53,8 +60,11 @@ loop-less c = omega arith
 
 loop-again : tie.Need-loop-again Inv-loop μ-loop
 loop-again c =
-    let i = c .before .before .before .before .before .before .before .before .before .before .before .before .before .before .before .loop in
-    let m = filled-more _ (c .before .before .before .before .before .before .before .before .before .before .before .before .before .before .before .before .before .before .before .pre .0) _ (i .inv .2) (omega arith) (rw (i .inv .1) at (c .before .before .before .before .before .before .before .before .before .put-record .ensures .0)) (c .before .enum-told .given .1) in
+    let put = c .before .before .before .before .before .before .before .before .before in
+    let i = put .before .before .before .before .before .before .loop in
+    let good = put .before .before .before .before .before .before .before .before .before .before .pre .0 in
+    let g = rw (i .inv .1) at (put .put-record .ensures .0) in
+    let m = filled-more _ good _ (i .inv .2) (omega arith) {xs′ = put-samples put} g (c .before .enum-told .given .1) in
     (omega arith, m .0, m .1)
 
 same-length-5 : tie.Need-same-length-5 Inv-loop μ-loop

@@ -33,10 +33,13 @@ same-length-4 c = search needs
 
 returns : tie.Need-returns
 returns c =
-    let p = c .before .before .before .before .before .before .before .before .before .before .before .before .before .before .before .before .before .before .before .pre in
-    let z = good-sample _ (p .0) _ (p .1) _ (c .before .before .before .before .before .before .before .before .before .before .before .before .before .before .decode .ensures .0 ∙ ap decodeOf (c .before .before .before .before .before .before .before .before .before .before .before .before .before .before .before .record-of .ensures .0)) in
-    let m = sym (c .before .before .before .before .before .before .before .before .before .before .before .before .before .mark-of .ensures .0 ∙ mark-there _ _ (p .1)) in
-    (rw m (rw (z .0, z .1) at (c .before .before .before .before .before .before .put .ensures)), refl)
+    let put = c .before .before .before .before .before .before in
+    let marked = put .before .before .before .before .before .before .before in
+    let decoded = marked .before in
+    let p = decoded .before .before .before .before .before .pre in
+    let z = good-sample _ (p .0) _ (p .1) _ (decoded .decode .ensures .0 ∙ ap decodeOf (decoded .before .record-of .ensures .0)) in
+    let m = sym (marked .mark-of .ensures .0 ∙ mark-there _ _ (p .1)) in
+    (rw m (rw (z .0, z .1) at (put .put .ensures)), refl)
 
 pub put-record-spec : {M : Type 1} → statement M
 put-record-spec =
