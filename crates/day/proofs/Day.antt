@@ -16,13 +16,15 @@ use Rattle.family.proofs.Choices.{chosen-one}
 use Rattle.family.proofs.Levels.{ranks-in}
 use Rattle.record.specs.Record.{across, up}
 use Rattle.pause.specs.Pause.{pauseSum}
-use Rattle.record.specs.Plain.{RecordsGiven, Misfit, FileGiven, Placed}
-use Rattle.record.proofs.Plain.{file-one}
-use Rattle.record.proofs.Exactly.{file-rows}
+use Rattle.record.specs.Plain.{Placed}
+use Rattle.pause.specs.Plain.{RecordsGiven, Misfit, FileGiven}
+use Rattle.pause.proofs.Plain.{file-one}
+use Rattle.pause.proofs.Exactly.{file-rows}
 use Rattle.text.specs.Text.{signedDecimal}
 use Rattle.text.proofs.Decimal.{decimal-length, decimal-most}
 use Rattle.text.proofs.Written.{written-as, written-one}
-use Rattle.day.specs.Day.{count, DayNumber, DayLevels, DayText, Reported, refusedLine, sampleLine, sampleLines, levelsText}
+use Rattle.lines.specs.Lines.{refusedLine, sampleLine}
+use Rattle.day.specs.Day.{count, DayNumber, DayLevels, DayText, Reported, sampleLines, levelsText}
 use Rattle.day.proofs.Records.{placed}
 
 -- ---- one number, and one text
@@ -104,7 +106,8 @@ module _ (s : List ℕ) (L : ℕ → List ℕ) (few : count s ≤ 104) (good : (
         arith,
         length-append (sampleLines s L n) line,
         lines-length n (omega arith),
-        sample-length n (across s (16 * n)) (up s (16 * n)) (ranks L 3 n) (omega arith) (g .0) (g .1) (ranks-in L n 3 (λ ℓ a b. C .minimal .family .nested ℓ n a b) .0),
+        sample-length n (across s (16 * n)) (up s (16 * n)) (ranks L 3 n) (omega arith) (g .0) (g .1)
+            (ranks-in L n 3 (λ ℓ a b. C .minimal .family .nested ℓ n a b) .0),
       )
 
   text-length : length (levelsText s L) ≤ 4096

@@ -18,7 +18,7 @@ use Rattle.costs.specs.Costs.{Permit}
 use Rattle.costs.specs.Walk.{perm}
 use Rattle.costs.proofs.Perm.{perm-same}
 use Rattle.costs.proofs.Meaning.{permissions}
-use Rattle.day.specs.Day.{listed, sampleOf, samplesOf}
+use Rattle.day.specs.Day.{listed, daySample, daySamples}
 
 pub listed-length : {A : Type 0} (f : ℕ → A) (n : ℕ) → length (listed f n) ≡ n
 unfolding listed
@@ -35,30 +35,32 @@ listed-at z f (suc n) q h = elim (decLt q n) [
 
 -- buffers that begin with the samples of n records
 module _ (s : List ℕ) (xs : Samples) (tols : List ℕ) (m n : ℕ) (ranged : Ranged xs n)
-    (across : (q : ℕ) → q < n → getD (xs .across) q (pos 0) ≡ sampleOf s q .across)
-    (up : (q : ℕ) → q < n → getD (xs .up) q (pos 0) ≡ sampleOf s q .up)
-    (marks : (q : ℕ) → q < n → getD (xs .marks) q 0 ≡ sampleOf s q .mark) where
+    (across : (q : ℕ) → q < n → getD (xs .across) q (pos 0) ≡ daySample s q .across)
+    (up : (q : ℕ) → q < n → getD (xs .up) q (pos 0) ≡ daySample s q .up)
+    (marks : (q : ℕ) → q < n → getD (xs .marks) q 0 ≡ daySample s q .mark) where
   listed-range : (h : ℕ → ℤ) (zs : List ℤ) → InRange zs n → ((q : ℕ) → q < n → getD zs q (pos 0) ≡ h q) → InRange (listed h n) n
   listed-range h zs I e = record { held = omega (arith, listed-length h n); each = λ q o. rw (listed-at (pos 0) h n q o, ← e q o) (I .each q o) }
 
-  listed-ranged : Ranged (samplesOf s n) n
+  listed-ranged : Ranged (daySamples s n) n
   listed-ranged = record {
-    across = listed-range (λ q. sampleOf s q .across) (xs .across) (ranged .across) across;
-    up = listed-range (λ q. sampleOf s q .up) (xs .up) (ranged .up) up;
+    across = listed-range (λ q. daySample s q .across) (xs .across) (ranged .across) across;
+    up = listed-range (λ q. daySample s q .up) (xs .up) (ranged .up) up;
   }
 
-  same : (i j : ℕ) → j < n → Same xs (samplesOf s n) i j
+  same : (i j : ℕ) → j < n → Same xs (daySamples s n) i j
   same i j h = record {
-    across = λ q u v. across q (omega arith) ∙ sym (listed-at (pos 0) (λ q. sampleOf s q .across) n q (omega arith));
-    up = λ q u v. up q (omega arith) ∙ sym (listed-at (pos 0) (λ q. sampleOf s q .up) n q (omega arith));
-    marks = λ q u v. let e = marks q (omega arith) ∙ sym (listed-at 0 (λ q. sampleOf s q .mark) n q (omega arith)) in (λ p. sym e ∙ p, λ p. e ∙ p);
+    across = λ q u v. across q (omega arith) ∙ sym (listed-at (pos 0) (λ q. daySample s q .across) n q (omega arith));
+    up = λ q u v. up q (omega arith) ∙ sym (listed-at (pos 0) (λ q. daySample s q .up) n q (omega arith));
+    marks = λ q u v. let e = marks q (omega arith) ∙ sym (listed-at 0 (λ q. daySample s q .mark) n q (omega arith)) in (λ p. sym e ∙ p, λ p. e ∙ p);
   }
 
-  decides : (k i j : ℕ) → 1 ≤ k → k ≤ m → i < j → j < n → Decides (Permit (samplesOf s n) tols k i j) (perm xs tols k i j)
+  decides : (k i j : ℕ) → 1 ≤ k → k ≤ m → i < j → j < n → Decides (Permit (daySamples s n) tols k i j) (perm xs tols k i j)
   decides k i j a b o h =
-      subst (Decides (Permit (samplesOf s n) tols k i j)) (sym (perm-same xs (samplesOf s n) tols k i j (same i j h))) (permissions (samplesOf s n) tols m n listed-ranged k i j a b o h)
+      subst (Decides (Permit (daySamples s n) tols k i j)) (sym (perm-same xs (daySamples s n) tols k i j (same i j h)))
+      (permissions (daySamples s n) tols m n listed-ranged k i j a b o h)
 
-  pub chosen-listed : 0 < n → (r : ℕ → ℕ) → ((x : ℕ) → x < n → r x ≤ m) → Chosen (Permit xs tols) m 0 (n - 1) (levels r 0 (n - 1)) → Chosen (Permit (samplesOf s n) tols) m 0 (n - 1) (levels r 0 (n - 1))
+  pub chosen-listed : 0 < n → (r : ℕ → ℕ) → ((x : ℕ) → x < n → r x ≤ m) → Chosen (Permit xs tols) m 0 (n - 1) (levels r 0 (n - 1))
+      → Chosen (Permit (daySamples s n) tols) m 0 (n - 1) (levels r 0 (n - 1))
   chosen-listed some r high C =
-      chosen-levels (Permit (samplesOf s n) tols) (perm xs tols) m n decides some r high .0
+      chosen-levels (Permit (daySamples s n) tols) (perm xs tols) m n decides some r high .0
       (chosen-levels (Permit xs tols) (perm xs tols) m n (permissions xs tols m n ranged) some r high .1 C)

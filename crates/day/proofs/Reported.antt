@@ -15,10 +15,10 @@ use Rattle.sample.specs.Samples.{Samples}
 use Rattle.family.specs.Levels.{levels}
 use Rattle.family.proofs.Levels.{ranks-levels}
 use Rattle.readout.specs.Read.{rank}
-use Rattle.record.specs.declared.PauseLine.{PauseLine}
+use Rattle.pause.specs.declared.PauseLine.{PauseLine}
 use Rattle.pause.specs.Pause.{pauseLineOf, pauseSum}
-use Rattle.record.specs.Plain.{FileGiven}
-use Rattle.record.proofs.Plain.{file-given}
+use Rattle.pause.specs.Plain.{FileGiven}
+use Rattle.pause.proofs.Plain.{file-given}
 use Rattle.trace.specs.declared.Changed.{Changed}
 use Rattle.trace.specs.declared.Levels.{Levels}
 use Rattle.trace.specs.Calls.{ReadGives, buffers}
@@ -29,8 +29,10 @@ use Rattle.history.proofs.Sound.{state}
 use Rattle.history.proofs.Follows.{sound-shown, step-number}
 use Rattle.text.specs.Text.{Written}
 use Rattle.text.proofs.Written.{written-as}
-use Rattle.day.specs.Day.{count, tolerances, DayNumber, DayLevels, Reported, refusedLine, levelsText}
-use Rattle.day.specs.Fill.{dayTrace, Filled, AddsAll, heldText}
+use Rattle.lines.specs.Lines.{refusedLine}
+use Rattle.lines.specs.Held.{heldText}
+use Rattle.day.specs.Day.{count, tolerances, DayNumber, DayLevels, Reported, levelsText}
+use Rattle.day.specs.Fill.{dayTrace, Filled, AddsAll}
 use Rattle.day.proofs.Records.{good-given}
 use Rattle.day.proofs.Filled.{past-trace, filled-ranged, filled-sound}
 use Rattle.day.proofs.Listed.{chosen-listed}
@@ -45,7 +47,8 @@ refused-text {k = k} g some W = (refusedLine k, record { number = k; given = g; 
 
 module _ {s out out′ : List ℕ} {r : ℕ} {why : Refusal} where
   -- by the pause line
-  pub reported-file : (l : PauseLine) → l ≡ pauseLineOf s → l .outcome ≡ Refused why → Written out 0 (refusedLine (code (l .outcome))) out′ r → Reported s out out′ r
+  pub reported-file : (l : PauseLine) → l ≡ pauseLineOf s → l .outcome ≡ Refused why
+      → Written out 0 (refusedLine (code (l .outcome))) out′ r → Reported s out out′ r
   reported-file l e h W =
       let g : FileGiven s (code (l .outcome)) = rw e (file-given s) in
       refused-text (inl (g, refusal-some h)) (refusal-some h) W
@@ -67,7 +70,8 @@ module _ (s : List ℕ) (good : pauseLineOf s .outcome ≡ Done) {xs : Samples} 
   fits h = omega (arith, F .room)
 
   -- refused by the read
-  pub reported-few : {out out′ : List ℕ} {r : ℕ} {why : Refusal} → l .outcome ≡ Refused why → Written out 0 (refusedLine (code (l .outcome))) out′ r → Reported s out out′ r
+  pub reported-few : {out out′ : List ℕ} {r : ℕ} {why : Refusal} → l .outcome ≡ Refused why
+      → Written out 0 (refusedLine (code (l .outcome))) out′ r → Reported s out out′ r
   reported-few h W = refused-text (inr (good-given s good, inr (fits, read-number))) (refusal-some h) W
 
   module _ (d : l .outcome ≡ Done) where
@@ -88,7 +92,7 @@ module _ (s : List ℕ) (good : pauseLineOf s .outcome ≡ Done) {xs : Samples} 
         chosen-listed s xs tolerances 3 (count s) (filled-ranged s good (count s) F (omega arith)) (F .across) (F .up) (F .marks)
         (omega (arith, some)) (rank bytes′) (G .done d .best .highest) (shown .chosen)
 
-    day-text : heldText (xs .across) (xs .up) bytes′ (count s) l (pauseSum s (count s)) ≡ levelsText s L
+    day-text : heldText (xs .across) (xs .up) bytes′ (count s) (l .total) (l .segments) (pauseSum s (count s)) ≡ levelsText s L
     unfolding levelsText
     day-text = rw (
       held-lines s L (xs .across) (xs .up) bytes′ (count s) (F .across) (F .up)
@@ -100,7 +104,8 @@ module _ (s : List ℕ) (good : pauseLineOf s .outcome ≡ Done) {xs : Samples} 
     )
 
     -- the text of its levels
-    pub reported-day : {out out′ : List ℕ} {r : ℕ} → Written out 0 (heldText (xs .across) (xs .up) bytes′ (count s) l (pauseSum s (count s))) out′ r → Reported s out out′ r
+    pub reported-day : {out out′ : List ℕ} {r : ℕ}
+        → Written out 0 (heldText (xs .across) (xs .up) bytes′ (count s) (l .total) (l .segments) (pauseSum s (count s))) out′ r → Reported s out out′ r
     reported-day W = (
       levelsText s L,
       record { number = 0; given = inr (good-given s good, inr (fits, given)); refused = λ n. absurd (n refl); done = λ z. (L, day-levels, refl) },

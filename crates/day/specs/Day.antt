@@ -1,9 +1,8 @@
--- What dayline prints of a file of records. Bytes are ASCII codes. Assumes nothing.
+-- What dayline prints of a file of records, by the lines of crate lines. Assumes nothing.
 use mathlib.Core.Path.{_≡_}
 use mathlib.Core.Logic.{_⊎_}
 use mathlib.Core.List.{List, [], _∷_, _++_}
 use Prim.Native.Nat.{ℕ, zero, suc, _*_, _-_, _/_, _<_}
-use lib.IntN.{ℤ}
 use lib.ListN.{length, replicate}
 use Rattle.refusal.specs.Check.{First}
 use Rattle.sample.specs.declared.Sample.{Sample}
@@ -12,9 +11,10 @@ use Rattle.family.specs.Levels.{Chosen, size, ranks}
 use Rattle.costs.specs.Costs.{Permit}
 use Rattle.record.specs.Record.{across, up}
 use Rattle.pause.specs.Pause.{pauseSum}
-use Rattle.record.specs.Plain.{FileGiven}
+use Rattle.pause.specs.Plain.{FileGiven}
 use Rattle.pause.specs.Restart.{markAt}
-use Rattle.text.specs.Text.{decimal, signedDecimal, Written}
+use Rattle.text.specs.Text.{Written}
+use Rattle.lines.specs.Lines.{refusedLine, countsLine, sampleLine, countedLine, pauseText}
 
 -- how many records a file has
 abbrev pub count : List ℕ → ℕ
@@ -26,51 +26,32 @@ listed f zero = []
 listed f (suc n) = listed f n ++ (f n ∷ [])
 
 -- the sample of its record i: marked where a restart lies before it
-abbrev pub sampleOf : List ℕ → ℕ → Sample
-sampleOf s i = sample (across s (16 * i)) (up s (16 * i)) (markAt s i)
+abbrev pub daySample : List ℕ → ℕ → Sample
+daySample s i = sample (across s (16 * i)) (up s (16 * i)) (markAt s i)
 
 -- those of its first n records
-abbrev pub samplesOf : List ℕ → ℕ → Samples
-samplesOf s n = samples (listed (λ i. sampleOf s i .across) n) (listed (λ i. sampleOf s i .up) n) (listed (λ i. sampleOf s i .mark) n)
+abbrev pub daySamples : List ℕ → ℕ → Samples
+daySamples s n =
+    samples (listed (λ i. daySample s i .across) n) (listed (λ i. daySample s i .up) n) (listed (λ i. daySample s i .mark) n)
 
 -- tolerances 1, 4, 16 at three levels
 abbrev pub tolerances : List ℕ
 tolerances = 1 ∷ 4 ∷ 16 ∷ replicate 13 0
 
--- the number of a refused day, 0 for none: the pause line's first, then that of each sample put, of which the 105th finds no room, then the read's
+-- the number of a refused day, 0 for none: the pause line's first, then that of each sample put, of which the 105th finds no
+-- room, then the read's
 abbrev pub DayNumber : List ℕ → ℕ → Type 0
 DayNumber s k = (FileGiven s k × (k ≡ 0 → ⊥)) ⊎ (FileGiven s 0 × First 7 (104 < count s) (First 9 (count s < 2) (λ k. k ≡ 0)) k)
 
--- ---- the lines; 10 ends a line, 32 is a space
--- "refused ", the number
-abbrev pub refusedLine : ℕ → List ℕ
-refusedLine k = 114 ∷ 101 ∷ 102 ∷ 117 ∷ 115 ∷ 101 ∷ 100 ∷ 32 ∷ (decimal k ++ (10 ∷ []))
-
--- "samples ", their count, " levels 3"
-abbrev pub countsLine : ℕ → List ℕ
-countsLine n = (115 ∷ 97 ∷ 109 ∷ 112 ∷ 108 ∷ 101 ∷ 115 ∷ 32 ∷ decimal n) ++ (32 ∷ 108 ∷ 101 ∷ 118 ∷ 101 ∷ 108 ∷ 115 ∷ 32 ∷ 51 ∷ 10 ∷ [])
-
--- a sample: its number, across, up, rank
-abbrev pub sampleLine : ℕ → ℤ → ℤ → ℕ → List ℕ
-sampleLine i x y rank = decimal i ++ (32 ∷ signedDecimal x) ++ (32 ∷ signedDecimal y) ++ (32 ∷ decimal rank) ++ (10 ∷ [])
-
--- the first n samples of a file, in the levels L
+-- ---- the lines
+-- of the first n samples of a file, in the levels L
 unfoldable pub sampleLines : List ℕ → (ℕ → List ℕ) → ℕ → List ℕ
 sampleLines s L zero = []
 sampleLines s L (suc n) = sampleLines s L n ++ sampleLine n (across s (16 * n)) (up s (16 * n)) (ranks L 3 n)
 
--- "segments ", a total and three counts
-abbrev pub countedLine : ℕ → ℕ → ℕ → ℕ → List ℕ
-countedLine total a b c =
-    (115 ∷ 101 ∷ 103 ∷ 109 ∷ 101 ∷ 110 ∷ 116 ∷ 115 ∷ 32 ∷ decimal total) ++ (32 ∷ decimal a) ++ (32 ∷ decimal b) ++ (32 ∷ decimal c) ++ (10 ∷ [])
-
--- those of the levels L: 1, 2, 3
+-- of the segments of the levels L: 1, 2, 3
 abbrev pub segmentsLine : (ℕ → List ℕ) → List ℕ
 segmentsLine L = countedLine (size L 3) (length (L 1) - 1) (length (L 2) - 1) (length (L 3) - 1)
-
--- "pause ", the line in milliseconds
-abbrev pub pauseText : ℕ → List ℕ
-pauseText sum = 112 ∷ 97 ∷ 117 ∷ 115 ∷ 101 ∷ 32 ∷ (decimal sum ++ (10 ∷ []))
 
 -- ---- the whole
 -- the text of a day whose levels are L
@@ -79,7 +60,7 @@ levelsText s L = countsLine (count s) ++ sampleLines s L (count s) ++ segmentsLi
 
 -- L is the chosen minimal family of the file's samples
 abbrev pub DayLevels : List ℕ → (ℕ → List ℕ) → Type 0
-DayLevels s L = Chosen (Permit (samplesOf s (count s)) tolerances) 3 0 (count s - 1) L
+DayLevels s L = Chosen (Permit (daySamples s (count s)) tolerances) 3 0 (count s - 1) L
 
 -- t is what is printed of the file s: the number alone where it is refused, else the text of its levels
 pub record DayText (s t : List ℕ) : Type 0 where

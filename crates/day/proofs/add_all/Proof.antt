@@ -1,9 +1,10 @@
--- `day::add_all` meets its contract. The invariant: the trace holds i samples, and these are the first i records. The measure is how many are left. Assumes nothing.
+-- `day::add_all` meets its contract. The invariant: the trace holds i samples, the first i records. The measure is how many are left. Assumes nothing.
 use mathlib.Core.Path.{_≡_, refl}
-use Prim.Native.Nat.{_-_, _≤_}
+use Prim.Native.Nat.{_+_, _-_, _≤_, _<_}
 use native.Mathlib.Omega.{arith}
 use borrow.Author.Needs.{needs}
-use Rattle.sample.specs.Samples.{samples}
+use Rattle.sample.specs.Samples.{Samples, samples}
+use Rattle.pause.proofs.Samples.{sample-there}
 use Rattle.day.specs.Day.{count}
 use Rattle.day.specs.Fill.{dayTrace, Filled}
 use Rattle.day.proofs.Filled.{filled-none, filled-more, all-refused, all-added}
@@ -16,11 +17,18 @@ Inv-loop xs₀ ys₀ marks₀ table₀ file trace₀ i₀ xs ys marks table trac
 abbrev μ-loop : tie.MeasureT-loop
 μ-loop xs₀ ys₀ marks₀ table₀ file trace₀ i₀ xs ys marks table trace i = count file - i
 
+-- the samples that put leaves
+abbrev put-samples : tie.After-put Inv-loop μ-loop → Samples
+put-samples c = let l = c .put .last .1 in samples (l .0) (l .1 .0) (l .1 .1 .0)
+
 loop-holds : tie.Need-loop-holds Inv-loop μ-loop
 loop-holds c = let p = c .before .before .before .pre in (omega arith, p .1, filled-none _ (p .2))
 
-put-record-requires : tie.Need-put-record-requires Inv-loop μ-loop
-put-record-requires c κs = (c .before .before .before .before .before .before .before .before .before .pre .0, omega arith)
+sample-of-requires : tie.Need-sample-of-requires Inv-loop μ-loop
+sample-of-requires c κs = search needs
+
+put-requires : tie.Need-put-requires Inv-loop μ-loop
+put-requires c κs = search needs
 
 enum-told : tie.Need-enum-told Inv-loop μ-loop
 enum-told c = search needs
@@ -42,8 +50,13 @@ same-length-4 c = search needs
 
 returns : tie.Need-returns Inv-loop μ-loop
 returns c =
-    let i = c .before .before .before .before .before .before .before .before .before .before .before .before .before .before .loop in
-    (all-refused _ (c .before .before .before .before .before .before .before .before .before .before .before .before .before .before .before .before .before .before .pre .0) _ (i .inv .2) (omega arith) (rw (i .inv .1) at (c .before .before .before .before .before .before .before .before .put-record .ensures .0)) _ (c .enum-told2 .given .1), refl)
+    let put = c .before .before .before .before .before .before .before .before in
+    let sampled = put .before .before .before .before .before in
+    let i = sampled .before .before .loop in
+    let s = sampled .before .before .before .before .before .before in
+    let there : i .i < count (s .args .file .now) = omega arith in
+    let g = rw (i .inv .1, sampled .sample-of .ensures .0, sample-there (s .args .file .now) (s .pre .0) (i .i) there) at (put .put .ensures) in
+    (all-refused _ (s .pre .0) _ (i .inv .2) there {xs′ = put-samples put} g _ (c .enum-told2 .given .1), refl)
 
 add-i : tie.Need-add-i Inv-loop μ-loop
 add-i c = omega arith
@@ -53,9 +66,15 @@ loop-less c = omega arith
 
 loop-again : tie.Need-loop-again Inv-loop μ-loop
 loop-again c =
-    let i = c .before .before .before .before .before .before .before .before .before .before .before .before .before .before .before .loop in
-    let m = filled-more _ (c .before .before .before .before .before .before .before .before .before .before .before .before .before .before .before .before .before .before .before .pre .0) _ (i .inv .2) (omega arith) (rw (i .inv .1) at (c .before .before .before .before .before .before .before .before .before .put-record .ensures .0)) (c .before .enum-told .given .1) in
-    (omega arith, m .0, m .1)
+    let put = c .before .before .before .before .before .before .before .before .before in
+    let sampled = put .before .before .before .before .before in
+    let i = sampled .before .before .loop in
+    let s = sampled .before .before .before .before .before .before in
+    let there : i .i < count (s .args .file .now) = omega arith in
+    let next : i .i + 1 ≤ count (s .args .file .now) = omega arith in
+    let g = rw (i .inv .1, sampled .sample-of .ensures .0, sample-there (s .args .file .now) (s .pre .0) (i .i) there) at (put .put .ensures) in
+    let m = filled-more _ (s .pre .0) _ (i .inv .2) there {xs′ = put-samples put} g (c .before .enum-told .given .1) in
+    (next, m .0, m .1)
 
 same-length-5 : tie.Need-same-length-5 Inv-loop μ-loop
 same-length-5 c = search needs
@@ -82,7 +101,8 @@ add-all-spec =
     Inv-loop
     μ-loop
     loop-holds
-    put-record-requires
+    sample-of-requires
+    put-requires
     enum-told
     enum-told-2
     same-length

@@ -11,7 +11,7 @@ start-requires : tie.Need-start-requires
 start-requires c κs = search needs
 
 returns : tie.Need-returns
-returns c = started (rw (c .before .before .tolerances .ensures) at (c .before .start .ensures))
+returns c = started {r = c .before .start .result} (rw (c .before .before .tolerances .ensures) at (c .before .start .ensures))
 
 pub empty-spec : {M : Type 1} → statement M
 empty-spec = tie.close (tie.spec tolerances-requires start-requires returns)

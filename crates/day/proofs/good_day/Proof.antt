@@ -2,11 +2,16 @@
 use mathlib.Core.Path.{_≡_, refl, ap}
 use borrow.Author.Needs.{needs}
 use native.Mathlib.Omega.{arith}
+use Rattle.sample.specs.Samples.{Samples, samples}
 use Rattle.trace.specs.declared.Trace.{Trace}
 use Rattle.day.specs.Day.{count}
 use Rattle.day.proofs.Reported.{reported-full, reported-few, reported-day}
 use Rattle.day.proofs.good_day.Statement.{statement}
 use Rattle.day.proofs.good_day.Tie as tie
+
+-- the samples that add_all leaves
+abbrev added-samples : tie.After-add-all → Samples
+added-samples c = let l = c .add-all .last .1 in samples (l .0) (l .1 .0) (l .1 .1 .0)
 
 no-cells-requires : tie.Need-no-cells-requires
 no-cells-requires c κs = search needs
@@ -43,7 +48,11 @@ same-length c = search needs
 
 returns : tie.Need-returns
 returns c =
-    (reported-full (c .before .before .before .before .before .before .before .before .before .before .before .before .before .before .before .before .before .before .before .pre .0) (c .before .before .before .before .before .before .before .before .before .before .add-all .ensures .0) (c .before .before .before .before .enum-told2 .given .1) (c .before .before .refused-line .ensures), refl)
+    let told = c .before .before .before .before in
+    let added = told .before .before .before .before .before .before in
+    let good = added .before .before .before .before .before .before .before .before .before .pre .0 in
+    let line = c .before .before .refused-line .ensures in
+    (reported-full {xs = added-samples added} good (added .add-all .ensures .0) (told .enum-told2 .given .1) line, refl)
 
 slice-aggregate-read : tie.Need-slice-aggregate-read
 slice-aggregate-read c = search needs
@@ -77,8 +86,16 @@ same-length-2 c = search needs
 
 returns-2 : tie.Need-returns-2
 returns-2 c =
-    let q = c .before .before .before .before .before .before .before .before .before .before .before .before .before .before .before .before .before .before .before .before .add-all .ensures .0 .done (c .before .before .before .before .before .before .before .before .before .before .before .before .before .before .enum-told .given .1) in
-    (reported-few _ (c .before .before .before .before .before .before .before .before .before .before .before .before .before .before .before .before .before .before .before .before .before .before .before .before .before .before .before .before .before .pre .0) (q .1) refl (rw (q .0) at (c .before .before .before .before .before .before .before .read .ensures)) (c .before .before .before .before .enum-told4 .given .1) (c .before .before .refused-line2 .ensures), refl)
+    let told = c .before .before .before .before in
+    let got = told .before .before .before in
+    let went = got .before .before .before .before .before .before .before in
+    let added = went .before .before .before .before .before .before in
+    let good = added .before .before .before .before .before .before .before .before .before .pre .0 in
+    let q = added .add-all .ensures .0 .done (went .enum-told .given .1) in (
+      reported-few _ good {xs = added-samples added} (q .1) refl (rw (q .0) at (got .read .ensures)) (told .enum-told4 .given .1)
+          (c .before .before .refused-line2 .ensures),
+      refl,
+    )
 
 slice-aggregate-levels-text : tie.Need-slice-aggregate-levels-text
 slice-aggregate-levels-text c = search needs
@@ -91,9 +108,14 @@ slice-aggregate-levels-text-3 c = search needs
 
 levels-text-requires : tie.Need-levels-text-requires
 levels-text-requires c κs =
-    let q = c .before .before .before .before .before .before .before .before .before .before .before .before .before .before .before .before .before .before .before .before .add-all .ensures .0 .done (c .before .before .before .before .before .before .before .before .before .before .before .before .before .before .enum-told .given .1) in
-    let e : c .before .before .before .before .before .before .before .before .before .before .before .before .before .before .before .before .before .before .before .before .add-all .result .trace .held ≡ count (c .before .before .before .before .before .before .before .before .before .before .before .before .before .before .before .before .before .before .before .before .before .before .before .before .before .before .before .before .before .args .file .now) = ap (λ (a : Trace). a .held) (q .0) in
-    let g = c .before .before .before .before .before .before .before .read .ensures .done (c .before .before .before .before .enum-told3 .given .1) .same in
+    let told = c .before .before .before .before .before in
+    let got = told .before .before .before in
+    let went = got .before .before .before .before .before .before .before in
+    let added = went .before .before .before .before .before .before in
+    let q = added .add-all .ensures .0 .done (went .enum-told .given .1) in
+    let start = added .before .before .before .before .before .before .before .before .before in
+    let e : added .add-all .result .trace .held ≡ count (start .args .file .now) = ap (λ (a : Trace). a .held) (q .0) in
+    let g = got .read .ensures .done (told .enum-told3 .given .1) .same in
     omega (arith, q .1 .room, q .1 .lent)
 
 same-length-3 : tie.Need-same-length-3
@@ -101,9 +123,16 @@ same-length-3 c = search needs
 
 returns-3 : tie.Need-returns-3
 returns-3 c =
-    let q = c .before .before .before .before .before .before .before .before .before .before .before .before .before .before .before .before .before .before .before .before .before .before .before .add-all .ensures .0 .done (c .before .before .before .before .before .before .before .before .before .before .before .before .before .before .before .before .before .enum-told .given .1) in
-    let p = c .before .before .before .before .before .before .before .before .before .before .before .before .before .before .before .before .before .before .before .before .before .before .before .before .before .before .before .before .before .before .before .before .pre in
-    (reported-day _ (p .0) (q .1) refl (rw (q .0) at (c .before .before .before .before .before .before .before .before .before .before .read .ensures)) (c .before .before .before .before .before .before .before .enum-told3 .given .1) (rw (q .0, p .1) at (c .before .before .levels-text .ensures)), refl)
+    let told = c .before .before .before .before .before .before .before .before in
+    let got = told .before .before .before in
+    let went = got .before .before .before .before .before .before .before in
+    let added = went .before .before .before .before .before .before in
+    let q = added .add-all .ensures .0 .done (went .enum-told .given .1) in
+    let p = added .before .before .before .before .before .before .before .before .before .pre in (
+      reported-day _ (p .0) {xs = added-samples added} (q .1) refl (rw (q .0) at (got .read .ensures)) (told .enum-told3 .given .1)
+          (rw (q .0, p .1) at (c .before .before .levels-text .ensures)),
+      refl,
+    )
 
 pub good-day-spec : {M : Type 1} → statement M
 good-day-spec =

@@ -1,7 +1,7 @@
 -- `day::report` meets its contract: the file is refused, or its records are good. Assumes nothing.
 use mathlib.Core.Path.{refl, sym, ap, _∙_}
 use borrow.Author.Needs.{needs}
-use Rattle.record.specs.declared.PauseLine.{PauseLine}
+use Rattle.pause.specs.declared.PauseLine.{PauseLine}
 use Rattle.day.proofs.Records.{good-sum}
 use Rattle.day.proofs.Reported.{reported-file}
 use Rattle.day.proofs.report.Statement.{statement}
@@ -23,7 +23,9 @@ same-length : tie.Need-same-length
 same-length c = search needs
 
 returns : tie.Need-returns
-returns c = (reported-file _ (c .before .before .before .before .before .before .pause-line .ensures .0) (c .before .before .before .before .enum-told2 .given .1) (c .before .before .refused-line .ensures), refl)
+returns c =
+    let told = c .before .before .before .before in
+    (reported-file _ (told .before .before .pause-line .ensures .0) (told .enum-told2 .given .1) (c .before .before .refused-line .ensures), refl)
 
 good-day-requires : tie.Need-good-day-requires
 good-day-requires c κs =

@@ -1,9 +1,9 @@
--- `day::counts_line` meets its contract. Assumes nothing.
+-- `lines::counts_line` meets its contract. Assumes nothing.
 use borrow.Author.Needs.{needs}
 use Rattle.text.proofs.Written.{written-more, written-as}
-use Rattle.day.proofs.Lines.{three}
-use Rattle.day.proofs.counts_line.Statement.{statement}
-use Rattle.day.proofs.counts_line.Tie as tie
+use Rattle.lines.proofs.Held.{three}
+use Rattle.lines.proofs.counts_line.Statement.{statement}
+use Rattle.lines.proofs.counts_line.Tie as tie
 
 slice-aggregate-bytes : tie.Need-slice-aggregate-bytes
 slice-aggregate-bytes c = search needs
@@ -31,8 +31,13 @@ same-length c = search needs
 
 returns : tie.Need-returns
 returns c =
-    written-more (written-more (c .before .before .before .before .before .before .before .before .before .before .before .before .before .before .before .before .before .before .before .bytes .ensures) (c .before .before .before .before .before .before .before .before .before .before .before .before .before .before .before .number .ensures))
-    (written-more (written-more (c .before .before .before .before .before .before .before .before .before .before .bytes2 .ensures) (written-as three (c .before .before .before .before .before .before .number2 .ensures))) (c .before .before .byte .ensures))
+    let end = c .before .before in
+    let levels = end .before .before .before .before in
+    let word = levels .before .before .before .before in
+    let count = word .before .before .before .before .before in
+    let samples = count .before .before .before .before in
+    let tail = written-more (word .bytes2 .ensures) (written-as three (levels .number2 .ensures)) in
+    written-more (written-more (samples .bytes .ensures) (count .number .ensures)) (written-more tail (end .byte .ensures))
 
 pub counts-line-spec : {M : Type 1} → statement M
 counts-line-spec =

@@ -1,8 +1,8 @@
--- `day::spaced` meets its contract. Assumes nothing.
+-- `lines::spaced` meets its contract. Assumes nothing.
 use borrow.Author.Needs.{needs}
 use Rattle.text.proofs.Written.{written-more}
-use Rattle.day.proofs.spaced.Statement.{statement}
-use Rattle.day.proofs.spaced.Tie as tie
+use Rattle.lines.proofs.spaced.Statement.{statement}
+use Rattle.lines.proofs.spaced.Tie as tie
 
 byte-requires : tie.Need-byte-requires
 byte-requires c κs = search needs

@@ -1,8 +1,8 @@
--- `day::pause_line` meets its contract. Assumes nothing.
+-- `lines::pause_line` meets its contract. Assumes nothing.
 use borrow.Author.Needs.{needs}
 use Rattle.text.proofs.Written.{written-more}
-use Rattle.day.proofs.pause_line.Statement.{statement}
-use Rattle.day.proofs.pause_line.Tie as tie
+use Rattle.lines.proofs.pause_line.Statement.{statement}
+use Rattle.lines.proofs.pause_line.Tie as tie
 
 slice-aggregate-bytes : tie.Need-slice-aggregate-bytes
 slice-aggregate-bytes c = search needs
@@ -20,7 +20,10 @@ same-length : tie.Need-same-length
 same-length c = search needs
 
 returns : tie.Need-returns
-returns c = written-more (written-more (c .before .before .before .before .before .before .before .before .before .before .bytes .ensures) (c .before .before .before .before .before .before .number .ensures)) (c .before .before .byte .ensures)
+returns c =
+    let end = c .before .before in
+    let sum = end .before .before .before .before in
+    written-more (written-more (sum .before .before .before .before .bytes .ensures) (sum .number .ensures)) (end .byte .ensures)
 
 pub pause-line-spec : {M : Type 1} → statement M
 pause-line-spec =

@@ -1,8 +1,8 @@
--- `day::segments_line` meets its contract. Assumes nothing.
+-- `lines::segments_line` meets its contract. Assumes nothing.
 use borrow.Author.Needs.{needs}
 use Rattle.text.proofs.Written.{written-more}
-use Rattle.day.proofs.segments_line.Statement.{statement}
-use Rattle.day.proofs.segments_line.Tie as tie
+use Rattle.lines.proofs.segments_line.Statement.{statement}
+use Rattle.lines.proofs.segments_line.Tie as tie
 
 array-read-fine : tie.Need-array-read-fine
 array-read-fine c = search needs
@@ -48,15 +48,14 @@ same-length c = search needs
 
 returns : tie.Need-returns
 returns c =
-    written-more
-    (written-more
-    (written-more
-    (written-more
-    (written-more (c .before .before .before .before .before .before .before .before .before .before .before .before .before .before .before .before .before .before .before .before .before .before .bytes .ensures) (c .before .before .before .before .before .before .before .before .before .before .before .before .before .before .before .before .before .before .number .ensures))
-    (c .before .before .before .before .before .before .before .before .before .before .before .before .before .before .spaced .ensures))
-    (c .before .before .before .before .before .before .before .before .before .before .spaced2 .ensures))
-    (c .before .before .before .before .before .before .spaced3 .ensures))
-    (c .before .before .byte .ensures)
+    let end = c .before .before in
+    let coarse = end .before .before .before .before in
+    let middle = coarse .before .before .before .before in
+    let fine = middle .before .before .before .before in
+    let total = fine .before .before .before .before in
+    let word = total .before .before .before .before in
+    let counted = written-more (written-more (word .bytes .ensures) (total .number .ensures)) (fine .spaced .ensures) in
+    written-more (written-more (written-more counted (middle .spaced2 .ensures)) (coarse .spaced3 .ensures)) (end .byte .ensures)
 
 pub segments-line-spec : {M : Type 1} → statement M
 segments-line-spec =

@@ -1,17 +1,18 @@
--- `day::sample_lines` meets its contract. The invariant: the lines of the first i samples are written. The measure is how many are left. Assumes nothing.
+-- `lines::sample_lines` meets its contract. The invariant: the lines of the first i samples are written. The measure is how many are left. Assumes nothing.
+use mathlib.Core.Path.{_≡_}
 use Prim.Native.Nat.{_-_, _≤_}
 use native.Mathlib.Omega.{arith}
+use lib.IntN.{pos}
+use lib.ListN.{getD}
+use mir.Syntax.{w16}
+use mir.Facts.{toZ-ofZ}
 use borrow.Author.Needs.{needs}
 use Rattle.text.specs.Text.{Written}
 use Rattle.text.proofs.Written.{written-none}
-use Rattle.day.specs.Fill.{heldLines}
-use Rattle.day.proofs.Lines.{held-none, held-more}
-use mathlib.Core.Path.{_≡_, refl}
-use lib.IntN.{pos}
-use lib.ListN.{getD}
-use Rattle.record.proofs.Signed.{back}
-use Rattle.day.proofs.sample_lines.Statement.{statement}
-use Rattle.day.proofs.sample_lines.Tie as tie
+use Rattle.lines.specs.Held.{heldLines}
+use Rattle.lines.proofs.Held.{held-none, held-more}
+use Rattle.lines.proofs.sample_lines.Statement.{statement}
+use Rattle.lines.proofs.sample_lines.Tie as tie
 
 abbrev Inv-loop : tie.InvT-loop
 Inv-loop out₀ at xs ys ranks n end₀ i₀ out end i = (i ≤ n) × Written out₀ at (heldLines xs ys ranks i) out end
@@ -48,11 +49,13 @@ loop-less c = omega arith
 
 loop-again : tie.Need-loop-again Inv-loop μ-loop
 loop-again c =
-    let a = c .before .before .before .before .before .before .before .before .before .before .before .args in
-    let i = c .before .before .before .before .before .before .before .before .loop in
-    let x = back {z = getD (a .xs .now) (i .i) (pos 0)} refl (c .before .before .before .before .before .before .x .given) in
-    let y = back {z = getD (a .ys .now) (i .i) (pos 0)} refl (c .before .before .before .before .before .y .given) in
-    (omega arith, held-more (a .xs .now) (a .ys .now) (a .ranks .now) (i .i) (i .inv .1) (rw (x, y) at (c .before .before .sample-line .ensures)))
+    let turn = c .before .before .before .before .before .before .before .before in
+    let a = turn .before .before .before .args in
+    let i = turn .loop in
+    let read = c .before .before .before .before .before in
+    let x = toZ-ofZ {w = w16} {z = getD (a .xs .now) (i .i) (pos 0)} (record { sfits = read .before .x .given }) in
+    let y = toZ-ofZ {w = w16} {z = getD (a .ys .now) (i .i) (pos 0)} (record { sfits = read .y .given }) in
+    (omega arith, held-more (a .xs .now) (a .ys .now) (a .ranks .now) (i .i) (i .inv .1) (c .before .before .sample-line .ensures) (rw (x, y)))
 
 same-length : tie.Need-same-length Inv-loop μ-loop
 same-length c = search needs

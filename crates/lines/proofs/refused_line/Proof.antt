@@ -1,8 +1,8 @@
--- `day::refused_line` meets its contract. Assumes nothing.
+-- `lines::refused_line` meets its contract. Assumes nothing.
 use borrow.Author.Needs.{needs}
 use Rattle.text.proofs.Written.{written-more}
-use Rattle.day.proofs.refused_line.Statement.{statement}
-use Rattle.day.proofs.refused_line.Tie as tie
+use Rattle.lines.proofs.refused_line.Statement.{statement}
+use Rattle.lines.proofs.refused_line.Tie as tie
 
 slice-aggregate-bytes : tie.Need-slice-aggregate-bytes
 slice-aggregate-bytes c = search needs
@@ -26,7 +26,11 @@ same-length : tie.Need-same-length
 same-length c = search needs
 
 returns : tie.Need-returns
-returns c = rw (c .before .before .before .before .before .before .before .number .ensures) at (written-more (written-more (c .before .before .before .before .before .before .before .before .before .before .before .bytes .ensures) (c .before .before .before .before .before .before .number2 .ensures)) (c .before .before .byte .ensures))
+returns c =
+    let end = c .before .before in
+    let code = end .before .before .before .before in
+    let line = written-more (code .before .before .before .before .before .bytes .ensures) (code .number2 .ensures) in
+    rw (code .before .number .ensures) at (written-more line (end .byte .ensures))
 
 pub refused-line-spec : {M : Type 1} → statement M
 refused-line-spec =
