@@ -22,7 +22,7 @@ use Rattle.trace.specs.declared.Trace.{Trace}
 use Rattle.trace.specs.declared.Changed.{Changed}
 use Rattle.trace.specs.declared.Stop.the-variants as Stop
 use Rattle.trace.specs.declared.Uploaded.{Uploaded}
-use Rattle.trace.specs.Calls.{sizes, Buffers, PutGives}
+use Rattle.trace.specs.Calls.{sizes, Buffers, holding, PutGives}
 use Rattle.checks.specs.Numbers.{OneLength}
 use Rattle.trace.specs.Upload.{zipped, uploaded, Puts, UploadGives}
 use Rattle.trace.specs.Upload.Puts.{all-taken, one-refused, one-taken}
@@ -155,11 +155,14 @@ module _ {a c : Trace} {b d : Buffers} {zs : List Sample} {i cells : ℕ} (U : U
           let p = put-passed (sizes c) (d .samples) (d .table) (c .held) (getD zs i noSample) (rw h at (G .number)) in
           omega (arith, added-cells c d (c .held) _ r f G h refl, mul-le-mul {n₁ = c .levels} {m₁ = c .held} {n₂ = 16} {m₂ = 256} (p .0 .sized .1) (omega (arith, p .4, p .0 .sized .3)))
 
-      pub underway-more : Underway a b zs (i + 1) (cells + r .cells) (r .trace) f
-      underway-more = record {
-        leads = λ q e P. rw (let h : i + 1 + q .added ≡ i + suc (q .added) = omega arith in h, add-assoc cells (r .cells) (q .cells)) (U .leads _ e (rw (drop-cons zs i noSample l) (one-taken G h (rw (add-one i) at P))));
-        within = rw (put-adds c d (c .held) _ r f G h refl .trace) (omega (arith, U .within));
-        few = omega (arith, U .few, next-few);
-        room = room-on (U .room) (put-room G);
-        ready = λ m. put-keeps (rw h at (G .number)) (G .done h);
-      }
+      pub underway-more : Underway a b zs (i + 1) (cells + r .cells) (holding c (c .held + 1)) f
+      underway-more =
+          let e = put-adds c d (c .held) _ r f G h refl .trace in
+          let next : Underway a b zs (i + 1) (cells + r .cells) (r .trace) f = record {
+            leads = λ q e P. rw (let h : i + 1 + q .added ≡ i + suc (q .added) = omega arith in h, add-assoc cells (r .cells) (q .cells)) (U .leads _ e (rw (drop-cons zs i noSample l) (one-taken G h (rw (add-one i) at P))));
+            within = rw e (omega (arith, U .within));
+            few = omega (arith, U .few, next-few);
+            room = room-on (U .room) (put-room G);
+            ready = λ m. put-keeps (rw h at (G .number)) (G .done h);
+          } in
+          rw e at next

@@ -5,7 +5,7 @@ ghost use lib.ListN.{length};
 ghost use Rattle.sample.specs.Samples.{samples};
 ghost use Rattle.checks.specs.Numbers.{OneLength};
 ghost use Rattle.checks.specs.Rows.{traceOutcome, Passed, PassedTable};
-ghost use Rattle.trace.specs.Calls.{sizes, buffers, StartGives, PutGives, AskGives, ReadGives};
+ghost use Rattle.trace.specs.Calls.{sizes, buffers, holding, StartGives, PutGives, AskGives, ReadGives};
 ghost use Rattle.trace.specs.Upload.{zipped, Puts, UploadGives};
 use checks::Lengths;
 use geometry::Verdict;
@@ -101,6 +101,15 @@ impl Trace {
         }
     }
 
+    // The trace with n samples.
+    fn holding(self, n: usize) -> Trace
+        ensures { λ r. ⌜ r ≡ holding self n ⌝ }
+    {
+        let mut next = self;
+        next.held = n;
+        next
+    }
+
     // put, after checks 1 to 5 and by what they said: the sample is checked, and the trace is changed.
     fn admit(
         self,
@@ -124,9 +133,7 @@ impl Trace {
                 cells: 0,
             };
         };
-        let mut next = self;
-        let n = sizes::held_with(self.held, v);
-        next.held = n;
+        let next = self.holding(sizes::held_with(self.held, v));
         let cells = change::change(next.sizes(), xs, ys, marks, table, v, sample);
         Changed {
             outcome: Outcome::Done,
@@ -150,7 +157,7 @@ impl Trace {
         ensures { λ r. ⌜ Puts self (buffers (samples (now (xs .entry)) (now (ys .entry)) (now (marks .entry))) (now (table .entry))) (zipped (now (across .entry)) (now (up .entry)) (now (restarts .entry))) r (buffers (samples (now (xs .exit)) (now (ys .exit)) (now (marks .exit))) (now (table .exit))) ⌝ }
         ensures { λ _. ⌜ samples (now (across .exit)) (now (up .exit)) (now (restarts .exit)) ≡ samples (now (across .entry)) (now (up .entry)) (now (restarts .entry)) ⌝ }
     {
-        let mut trace = self;
+        let mut held = self.held;
         let mut cells = 0;
         let mut i = 0;
         while i < across.len() {
@@ -162,7 +169,8 @@ impl Trace {
                 up: y,
                 mark,
             };
-            let next = trace.admit(Outcome::Done, xs, ys, marks, table, trace.held, sample);
+            let trace = self.holding(held);
+            let next = trace.admit(Outcome::Done, xs, ys, marks, table, held, sample);
             let after = i + 1;
             let o = next.outcome;
             if let Outcome::Refused(why) = o {
@@ -173,13 +181,13 @@ impl Trace {
                     cells,
                 };
             }
-            trace = next.trace;
+            held += 1;
             cells += next.cells;
             i = after;
         }
         Uploaded {
             stop: Stop::AllTaken,
-            trace,
+            trace: self.holding(held),
             added: i,
             cells,
         }

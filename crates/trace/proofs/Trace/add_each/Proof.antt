@@ -9,18 +9,18 @@ use mir.Facts.{toZ-ofZ}
 use borrow.Author.Needs.{needs}
 use Rattle.sample.specs.Samples.{samples}
 use Rattle.checks.proofs.Passed.{trace-passed}
-use Rattle.trace.specs.Calls.{buffers, PutGives}
+use Rattle.trace.specs.Calls.{buffers, holding, PutGives}
 use Rattle.trace.specs.Upload.{zipped}
 use Rattle.trace.proofs.Upload.{noSample, zipped-length, zipped-at, Underway, underway-none, next-few, underway-more, underway-stops, underway-ends}
 use Rattle.trace.proofs.Trace.add_each.Statement.{statement}
 use Rattle.trace.proofs.Trace.add_each.Tie as tie
 
 abbrev Inv-loop : tie.InvT-loop
-Inv-loop xs₀ ys₀ marks₀ table₀ across up restarts trace₀ cells₀ i₀ xs ys marks table trace cells i =
-    Underway trace₀ (buffers (samples xs₀ ys₀ marks₀) table₀) (zipped across up restarts) i cells trace (buffers (samples xs ys marks) table)
+Inv-loop self xs₀ ys₀ marks₀ table₀ across up restarts held₀ cells₀ i₀ xs ys marks table held cells i =
+    Underway self (buffers (samples xs₀ ys₀ marks₀) table₀) (zipped across up restarts) i cells (holding self held) (buffers (samples xs ys marks) table)
 
 abbrev μ-loop : tie.MeasureT-loop
-μ-loop xs₀ ys₀ marks₀ table₀ across up restarts trace₀ cells₀ i₀ xs ys marks table trace cells i = length across - i
+μ-loop self xs₀ ys₀ marks₀ table₀ across up restarts held₀ cells₀ i₀ xs ys marks table held cells i = length across - i
 
 loop-holds : tie.Need-loop-holds Inv-loop μ-loop
 loop-holds c =
@@ -36,18 +36,22 @@ left c = let s = c .before .before .before .before .before in omega (arith, zipp
 
 -- what is done with it
 next : (c : tie.After-admit Inv-loop μ-loop) →
-    let i = c .before .before .before .before .before .before .before .before .before .loop in
-    let a = c .before .before .before .before .before .before .before .before .before .before .before .before .before .args in
-    PutGives (i .trace) (buffers (samples (i .xs) (i .ys) (i .marks)) (i .table)) (i .trace .held) (getD (zipped (a .across .now) (a .up .now) (a .restarts .now)) (i .i) noSample) (c .admit .result)
+    let l = c .before .before .before .before .before .before .before .before .before in
+    let i = l .before .loop in
+    let a = l .before .before .before .before .before .args in
+    PutGives (holding (a .self) (i .held)) (buffers (samples (i .xs) (i .ys) (i .marks)) (i .table)) (i .held) (getD (zipped (a .across .now) (a .up .now) (a .restarts .now)) (i .i) noSample) (c .admit .result)
     (buffers (samples (c .admit .last .1 .1 .0) (c .admit .last .1 .1 .1 .0) (c .admit .last .1 .1 .1 .1 .0)) (c .admit .last .1 .1 .1 .1 .1 .0))
 next c =
-    let l = c .before .before .before .before .before .before .before .before in
+    let h = c .before .before .before .before .before in
+    let y = h .before .before in
+    let x = y .before in
+    let l = x .before in
     let i = l .before .loop in
     let s = l .before .before .before .before .before in
     let a = s .args in
-    let x = toZ-ofZ {w = w16} {z = getD (a .across .now) (i .i) (pos 0)} (record { sfits = c .before .before .before .before .before .before .before .x .given }) in
-    let y = toZ-ofZ {w = w16} {z = getD (a .up .now) (i .i) (pos 0)} (record { sfits = c .before .before .before .before .before .before .y .given }) in
-    rw (zipped-at (a .across .now) (a .up .now) (a .restarts .now) (i .i) (s .pre .0) (omega arith)) (rw (x, y) at (c .admit .ensures))
+    let p = toZ-ofZ {w = w16} {z = getD (a .across .now) (i .i) (pos 0)} (record { sfits = x .x .given }) in
+    let q = toZ-ofZ {w = w16} {z = getD (a .up .now) (i .i) (pos 0)} (record { sfits = y .y .given }) in
+    rw (zipped-at (a .across .now) (a .up .now) (a .restarts .now) (i .i) (s .pre .0) (omega arith)) (rw (p, q, h .holding .ensures) at (c .admit .ensures))
 
 mul-x : tie.Need-mul-x Inv-loop μ-loop
 mul-x c = search needs
@@ -64,14 +68,19 @@ shared-slice-copy-out-y c = search needs
 shared-slice-read-mark : tie.Need-shared-slice-read-mark Inv-loop μ-loop
 shared-slice-read-mark c = search needs
 
+holding-requires : tie.Need-holding-requires Inv-loop μ-loop
+holding-requires c κs = search needs
+
 admit-requires : tie.Need-admit-requires Inv-loop μ-loop
 admit-requires c κs =
-    let l = c .before .before .before .before .before .before .before in
-    sym (trace-passed _ _ _ .1 (l .before .loop .inv .ready (left l)))
+    let h = c .before .before .before .before in
+    let l = h .before .before .before .before in
+    rw (h .holding .ensures) (sym (trace-passed _ _ _ .1 (l .before .loop .inv .ready (left l))))
 
 add-after : tie.Need-add-after Inv-loop μ-loop
 add-after c =
-    let l = c .before .before .before .before .before .before .before .before .before .before .before .before .before .before in
+    let d = c .before .before .before .before .before .before in
+    let l = d .before .before .before .before .before .before .before .before .before in
     let U = l .before .loop .inv in
     let P = U .ready (left l) .0 in
     omega (arith, U .within, P .held, P .sized .3)
@@ -94,28 +103,37 @@ same-length-4 c = search needs
 returns : tie.Need-returns Inv-loop μ-loop
 returns c =
     let d = c .before .before .before .before .before .before .before .before .before in
-    let l = d .before .before .before .before .before .before .before .before in
-    (underway-stops (l .before .loop .inv) (left l) (next d) (c .before .o .given .1), refl)
+    let l = d .before .before .before .before .before .before .before .before .before in
+    (rw (d .before .before .before .before .before .holding .ensures) (underway-stops (l .before .loop .inv) (left l) (next d) (c .before .o .given .1)), refl)
 
 enum-told : tie.Need-enum-told Inv-loop μ-loop
 enum-told c = search needs
 
+add-held : tie.Need-add-held Inv-loop μ-loop
+add-held c =
+    let l = c .before .before .before .before .before .before .before .before .before .before .before .before .before .before .before .before .before in
+    let P = l .before .loop .inv .ready (left l) .0 in
+    omega (arith, P .held, P .sized .3)
+
 add-cells : tie.Need-add-cells Inv-loop μ-loop
 add-cells c =
-    let d = c .before .before .before .before .before .before .before .before .before .before in
-    let l = d .before .before .before .before .before .before .before .before in
+    let d = c .before .before .before .before .before .before .before .before .before in
+    let l = d .before .before .before .before .before .before .before .before .before in
     let U = l .before .loop .inv in
     let P = U .ready (left l) .0 in
-    omega (arith, U .within, U .few, P .held, P .sized .3, next-few U (left l) (next d) (c .before .before .enum-told .given .1))
+    omega (arith, U .within, U .few, P .held, P .sized .3, next-few U (left l) (next d) (c .before .enum-told .given .1))
 
 loop-less : tie.Need-loop-less Inv-loop μ-loop
 loop-less c = search needs
 
 loop-again : tie.Need-loop-again Inv-loop μ-loop
 loop-again c =
-    let d = c .before .before .before .before .before .before .before .before .before .before in
-    let l = d .before .before .before .before .before .before .before .before in
-    underway-more (l .before .loop .inv) (left l) (next d) (c .before .before .enum-told .given .1)
+    let d = c .before .before .before .before .before .before .before .before .before in
+    let l = d .before .before .before .before .before .before .before .before .before in
+    underway-more (l .before .loop .inv) (left l) (next d) (c .before .enum-told .given .1)
+
+holding-requires-2 : tie.Need-holding-requires-2 Inv-loop μ-loop
+holding-requires-2 c κs = search needs
 
 same-length-5 : tie.Need-same-length-5 Inv-loop μ-loop
 same-length-5 c = search needs
@@ -131,9 +149,9 @@ same-length-8 c = search needs
 
 returns-2 : tie.Need-returns-2 Inv-loop μ-loop
 returns-2 c =
-    let i = c .before .loop in
-    let s = c .before .before .before .before .before in
-    (underway-ends (i .inv) (omega (arith, zipped-length (s .args .across .now) (s .args .up .now) (s .args .restarts .now) (s .pre .0))), refl)
+    let i = c .before .before .loop in
+    let s = c .before .before .before .before .before .before in
+    (rw (c .holding2 .ensures) (underway-ends (i .inv) (omega (arith, zipped-length (s .args .across .now) (s .args .up .now) (s .args .restarts .now) (s .pre .0)))), refl {a = samples (s .args .across .now) (s .args .up .now) (s .args .restarts .now)})
 
 pub add-each-spec : {M : Type 1} → statement M
 add-each-spec =
@@ -147,6 +165,7 @@ add-each-spec =
     mul-y
     shared-slice-copy-out-y
     shared-slice-read-mark
+    holding-requires
     admit-requires
     add-after
     enum-known-o
@@ -156,9 +175,11 @@ add-each-spec =
     same-length-4
     returns
     enum-told
+    add-held
     add-cells
     loop-less
     loop-again
+    holding-requires-2
     same-length-5
     same-length-6
     same-length-7

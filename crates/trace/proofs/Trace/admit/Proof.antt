@@ -54,14 +54,18 @@ held-with-requires c κs =
     let p = put-passed (sizes (a .self)) (samples (a .xs .now) (a .ys .now) (a .marks .now)) (a .table .now) (a .v) (a .sample) (zero c) in
     omega (arith, p .0 .held, p .0 .sized .3)
 
+holding-requires : tie.Need-holding-requires
+holding-requires c κs = search needs
+
 sizes-requires-2 : tie.Need-sizes-requires-2
 sizes-requires-2 c κs = search needs
 
 change-requires : tie.Need-change-requires
 change-requires c κs =
     let z = c .before .before .before .before in
-    let h = z .before in
-    rw (z .sizes2 .ensures, h .held-with .ensures) (put-ready _ _ _ _ _ (zero (h .before)))
+    let n = z .before in
+    let h = n .before in
+    rw (z .sizes2 .ensures, n .holding .ensures, h .held-with .ensures) (put-ready _ _ _ _ _ (zero (h .before)))
 
 same-length : tie.Need-same-length
 same-length c = search needs
@@ -79,10 +83,11 @@ returns-2 : tie.Need-returns-2
 returns-2 c =
     let d = c .before .before .before .before .before .before in
     let z = d .before .before .before .before .before in
-    let h = z .before in
-    rw (h .held-with .ensures)
+    let n = z .before in
+    let h = n .before in
+    rw (n .holding .ensures, h .held-with .ensures)
     (changed-gives {e = buffers (samples (d .change .last .1 .0) (d .change .last .1 .1 .0) (d .change .last .1 .1 .1 .0)) (d .change .last .1 .1 .1 .1 .0)} (zero (h .before))
-    (rw (z .sizes2 .ensures, h .held-with .ensures) at (d .change .ensures)))
+    (rw (z .sizes2 .ensures, n .holding .ensures, h .held-with .ensures) at (d .change .ensures)))
 
 pub admit-spec : {M : Type 1} → statement M
 admit-spec =
@@ -95,6 +100,7 @@ admit-spec =
     enum-told-2
     returns
     held-with-requires
+    holding-requires
     sizes-requires-2
     change-requires
     same-length
