@@ -8,7 +8,8 @@ use Rattle.sample.specs.Samples.{Samples, store}
 use Rattle.sample.specs.Sweep.{Ranged}
 use Rattle.sizes.specs.declared.Sizes.{Sizes}
 use Rattle.costs.specs.Costs.{Named, named}
-use Rattle.costs.specs.Walk.{perm, Rising, LowSteps, Rewritten}
+use Rattle.permission.specs.Finest.{perm, Rising}
+use Rattle.costs.specs.Walk.{LowSteps, Rewritten}
 
 -- what the change of sample v asks, of the samples held after it
 pub record Ready (s : Sizes) (xs : Samples) (t : List ℕ) (v : ℕ) (x : Sample) : Type 0 where

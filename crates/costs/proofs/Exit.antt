@@ -4,8 +4,11 @@ use mathlib.Core.Logic.{_⊎_, inl, inr, ⊎-elim}
 use mathlib.Core.Bool.{Bool, true}
 use mathlib.Core.List.{List}
 use Prim.Native.Nat.{ℕ, suc, _*_, _≤_, _<_}
+use native.Mathlib.Nat.{le-of-lt}
 use native.Mathlib.Omega.{arith}
-use lib.ListN.{length}
+use lib.IntN.{pos}
+use lib.ListN.{length, getD, set}
+use lib.Seq.{getD-set-other}
 use Rattle.refusal.proofs.Plain.{decided}
 use Rattle.sample.specs.declared.Sample.{Sample}
 use Rattle.sample.specs.Samples.{Samples, store}
@@ -18,9 +21,22 @@ use Rattle.table.specs.Table.{cell, Wrote}
 use Rattle.table.proofs.Address.{at-in, room-below}
 use Rattle.table.proofs.Writes.{wrote-kept, wrote-as, wrote-unique, wrote-some}
 use Rattle.costs.specs.Costs.{Named, namedTest}
-use Rattle.costs.specs.Walk.{perm, LowSteps, Rewritten}
-use Rattle.costs.proofs.Perm.{perm-adjacent, perm-put}
+use Rattle.permission.specs.Finest.{perm}
+use Rattle.costs.specs.Walk.{LowSteps, Rewritten}
+use Rattle.permission.proofs.Perm.{perm-adjacent, perm-same}
 use Rattle.costs.proofs.Tally.{named-decided}
+
+-- a sample stored anew at v
+other-put : {A : Type 0} (s : List A) (v q i j : ℕ) (x d : A) → Without v i j → i ≤ q → q ≤ j → getD s q d ≡ getD (set s v x) q d
+other-put s v q i j x d (inl h) a b = sym (getD-set-other s v q x d (λ e. omega arith))
+other-put s v q i j x d (inr h) a b = sym (getD-set-other s v q x d (λ e. omega arith))
+
+pub perm-put : (xs : Samples) (tols : List ℕ) (v k i j : ℕ) (x : Sample) → Without v i j → perm xs tols k i j ≡ perm (store xs v x) tols k i j
+perm-put xs tols v k i j x w = perm-same xs (store xs v x) tols k i j (record {
+  across = λ q a b. other-put (xs .across) v q i j (x .across) (pos 0) w a b;
+  up = λ q a b. other-put (xs .up) v q i j (x .up) (pos 0) w a b;
+  marks = λ q a b. let e = other-put (xs .marks) v q i j (x .mark) 0 w (le-of-lt a) (le-of-lt b) in (λ h. sym e ∙ h, λ h. e ∙ h);
+})
 
 -- the cells of stretches without v are as found, whatever the others are written with
 pub named-kept : (N : ℕ) (G : ℕ → ℕ → ℕ → ℕ) (m v n : ℕ) → n ≤ N → (t e : List ℕ) → Wrote N (Named m v n) G t e

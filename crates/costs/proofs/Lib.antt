@@ -1,4 +1,3 @@
-pub mod Perm
 pub mod Rows
 pub mod Sums
 pub mod Tally

@@ -3,8 +3,9 @@
 use mathlib.Core.Path.{_≡_, refl}
 use mathlib.Core.Logic.{_↔_, ⊎-elim}
 use mathlib.Core.List.{List, [], _∷_, List·Memᴰ as In}
-use Prim.Native.Nat.{ℕ, zero, suc, _+_, _≤_, _<_}
+use Prim.Native.Nat.{ℕ, zero, suc, _+_, _-_, _≤_, _<_}
 use native.Mathlib.Omega.{arith}
+use lib.ListN.{getD}
 use Rattle.refusal.specs.Check.{Decides}
 use Rattle.sample.specs.Mark.{Marked}
 use Rattle.sample.specs.declared.Sample.{Sample}
@@ -18,19 +19,22 @@ use Rattle.family.specs.Path.{done, step, Written}
 use Rattle.family.proofs.Checks.{room as fits, fine-near, checked-most}
 use Rattle.family.proofs.Foreign.{value-written, written-one}
 use Rattle.geometry.proofs.Permits.{marked-stops}
+use Rattle.geometry.proofs.Spoiler.{permits-decided}
 use Rattle.family.proofs.Kept.{family-holds}
 use Rattle.family.proofs.Local.{Without, with?}
 use Rattle.family.proofs.Promise.{genuine-meant}
 use Rattle.table.specs.Table.{cell}
 use Rattle.costs.specs.Costs.{Permit, Named, CellsWritten}
-use Rattle.costs.specs.Walk.{perm, Rewritten}
-use Rattle.costs.proofs.Perm.{perm-decided, perm-adjacent}
+use Rattle.permission.specs.Finest.{perm}
+use Rattle.costs.specs.Walk.{Rewritten}
+use Rattle.permission.proofs.Perm.{perm-adjacent}
 use Rattle.costs.proofs.Exit.{named-kept, rewritten-checked, rewritten-unique, Others, put-genuine}
 
 module _ (xs : Samples) (tols : List ℕ) (m n : ℕ) (ranged : Ranged xs n) where
   -- the test decides each stretch of the n samples
   pub permissions : (k i j : ℕ) → 1 ≤ k → k ≤ m → i < j → j < n → Decides (Permit xs tols k i j) (perm xs tols k i j)
-  permissions k i j a b o h = perm-decided xs tols k i j (fewer-ranged (omega arith) ranged) o
+  unfolding perm
+  permissions k i j a b o h = permits-decided xs i j (getD tols (k - 1) 0) (fewer-ranged (omega arith) ranged) o
 
   -- a table is genuine exactly when every cell is its cost
   pub genuine-is : m ≤ 16 → n ≤ 256 → (c : ℕ → ℕ → ℕ → ℕ) → Genuine (perm xs tols) c m n ↔ Levels.Costs (Permit xs tols) c m n

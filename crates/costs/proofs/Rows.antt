@@ -12,7 +12,8 @@ use Rattle.family.proofs.Local.{value-same}
 use Rattle.table.specs.Table.{at, cell, Wrote}
 use Rattle.table.proofs.Writes.{Inside, One, wrote-none, wrote-one, wrote-kept, wrote-as, wrote-more}
 use Rattle.costs.specs.Costs.{Named}
-use Rattle.costs.specs.Walk.{Rewritten, Row, Rows, Finest, from-finest, price}
+use Rattle.permission.specs.Finest.{Finest}
+use Rattle.costs.specs.Walk.{Rewritten, Row, Rows, from-finest, price}
 
 -- a row, cell by cell
 module _ (N : ℕ) (G : ℕ → ℕ → ℕ → ℕ) (k j : ℕ) (hk : 1 ≤ k) (hj : j < N) where

@@ -5,8 +5,8 @@ use mathlib.Core.List.{List}
 use Prim.Native.Nat.{ℕ, zero, suc, _+_, _-_, _≤_, _<_}
 use lib.Dec.{leb, ltb}
 use lib.ListN.{length, getD}
-use Rattle.geometry.specs.Near.{Permitted}
 use Rattle.sample.specs.Samples.{Samples}
+use Rattle.geometry.specs.Near.{Permitted}
 use Rattle.family.specs.Path.{Written}
 use Rattle.table.specs.Table.{at, cell}
 

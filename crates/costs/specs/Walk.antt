@@ -3,23 +3,12 @@ use mathlib.Core.Path.{_≡_}
 use mathlib.Core.Bool.{Bool, cond}
 use mathlib.Core.List.{List}
 use mathlib.Core.Logic.{_⊎_}
-use Prim.Native.Nat.{ℕ, suc, _+_, _-_, _≤_, _<_}
+use Prim.Native.Nat.{ℕ, suc, _≤_, _<_}
 use lib.Dec.{leb}
 use lib.ListN.{getD}
-use Rattle.sample.specs.Samples.{Samples}
-use Rattle.geometry.specs.Test.{permits}
 use Rattle.family.specs.Lists.{none}
 use Rattle.family.specs.Family.{value}
 use Rattle.table.specs.Table.{cell, Wrote}
-
--- the test of a permission, which decides `Permit` (`perm-decided`)
-unfoldable pub perm : Samples → List ℕ → ℕ → ℕ → ℕ → Bool
-perm xs tols k i j = permits xs i j (getD tols (k - 1) 0)
-
--- the tolerances of levels 1 to m rise, and none is above 65,536
-pub record Rising (tols : List ℕ) (m : ℕ) : Type 0 where
-  pub rise : (l : ℕ) → l + 1 < m → getD tols l 0 < getD tols (l + 1) 0
-  pub small : (l : ℕ) → l < m → getD tols l 0 ≤ 65536
 
 -- the cells of adjacent samples without sample v, of n samples at levels 1 to m, hold at most their level
 abbrev pub LowSteps : List ℕ → ℕ → ℕ → ℕ → ℕ → Type 0
@@ -36,10 +25,6 @@ Row k j top k' i j' = (k' ≡ k) × (j' ≡ j) × (i < top)
 
 abbrev pub Rows : ℕ → ℕ → ℕ → ℕ → ℕ → ℕ → Type 0
 Rows m j top k i j' = (1 ≤ k) × (k ≤ m) × (j' ≡ j) × (i < top)
-
--- r is the finest level at which the stretch i to j is permitted, and above m where there is none
-pub record Finest (perm : ℕ → ℕ → ℕ → Bool) (m i j r : ℕ) : Type 0 where
-  pub says : (k : ℕ) → 1 ≤ k → k ≤ m → perm k i j ≡ leb r k
 
 -- the permissions that the finest levels of the starts say
 unfoldable pub from-finest : List ℕ → ℕ → ℕ → ℕ → Bool

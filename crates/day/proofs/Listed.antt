@@ -15,8 +15,8 @@ use Rattle.geometry.proofs.Permits.{Same}
 use Rattle.family.specs.Levels.{Chosen, levels}
 use Rattle.family.proofs.Choices.{chosen-levels}
 use Rattle.costs.specs.Costs.{Permit}
-use Rattle.costs.specs.Walk.{perm}
-use Rattle.costs.proofs.Perm.{perm-same}
+use Rattle.permission.specs.Finest.{perm}
+use Rattle.permission.proofs.Perm.{perm-same}
 use Rattle.costs.proofs.Meaning.{permissions}
 use Rattle.day.specs.Day.{listed, daySample, daySamples}
 

@@ -18,8 +18,8 @@ use Rattle.family.proofs.Costs.{genuine-checked}
 use Rattle.family.proofs.Levels.{in-levels}
 use Rattle.table.specs.Table.{cell}
 use Rattle.costs.specs.Costs.{Permit}
-use Rattle.costs.specs.Walk.{perm}
-use Rattle.costs.proofs.Perm.{perm-adjacent}
+use Rattle.permission.specs.Finest.{perm}
+use Rattle.permission.proofs.Perm.{perm-adjacent}
 use Rattle.costs.proofs.Meaning.{permissions, genuine-is, marked-held}
 use Rattle.readout.specs.Read.{rank}
 use Rattle.readout.proofs.Meaning.{read-chosen, ranks-read}

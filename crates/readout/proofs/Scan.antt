@@ -7,7 +7,7 @@ use native.Mathlib.Nat.{eq-or-lt-of-le}
 use native.Mathlib.Omega.{arith}
 use lib.ListN.{length, getD, set, length-set}
 use Rattle.table.specs.Path.{SumAt, Stopped}
-use Rattle.table.proofs.Stops.{filled}
+use Rattle.algebra.proofs.Fill.{filled}
 use Rattle.readout.specs.Lay.{Above, Way}
 
 -- the scan of a level from the last sample down: j is the first sample from x on of a level above k, or the last

@@ -6,7 +6,7 @@ use Rattle.sample.specs.Mark.{marked}
 use Rattle.geometry.specs.Nearest.{nearest}
 use Rattle.geometry.specs.Test.{reaches, lowest, judged, permits}
 use Rattle.family.specs.Family.{cells, value, below, least, least-by, via, hop, next, along, rank, total, segments}
-use Rattle.costs.specs.Walk.{perm}
+use Rattle.permission.specs.Finest.{perm}
 use Rattle.words.specs.Word.{word, long, signed, signedAt}
 use Rattle.record.specs.Record.{counter, editionOk, spareOk, fieldsOk, recordOutcome}
 use Rattle.pause.specs.Pause.{fileLengthOk, recordsOutcome, fileOutcome, oldIncrease, difference, bothWithBoot, increase, increaseAt, pauseSum, pauseLineOf}

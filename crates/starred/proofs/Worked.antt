@@ -23,8 +23,8 @@ use Rattle.family.proofs.Costs.{cells-genuine}
 use Rattle.family.proofs.Levels.{levels-total, ranks-levels}
 use Rattle.family.proofs.Promise.{genuine-meant, read-promised}
 use Rattle.family.proofs.Ranks.{readout}
-use Rattle.costs.specs.Walk.{perm}
-use Rattle.costs.proofs.Perm.{perm-adjacent}
+use Rattle.permission.specs.Finest.{perm}
+use Rattle.permission.proofs.Perm.{perm-adjacent}
 use Rattle.costs.proofs.Meaning.{permissions}
 use Rattle.checks.specs.Numbers.{ReadNumber}
 use Rattle.checks.proofs.Numbers.{read-number}

@@ -1,13 +1,10 @@
 -- The loop that finds the chosen stop, from the farthest stop down; and lists that such loops fill. Assumes nothing.
 use mathlib.Core.Path.{_≡_, refl, sym, _∙_}
-use mathlib.Core.Logic.{⊎-elim}
-use mathlib.Core.List.{List}
 use Prim.Native.Nat.{ℕ, zero, suc, _+_, _-_, _≤_, _<_, min}
-use native.Mathlib.Nat.{eq-or-lt-of-le, le-refl}
+use native.Mathlib.Nat.{le-refl}
 use native.Mathlib.Numerals.{add-one}
 use native.Mathlib.Omega.{arith}
-use lib.ListN.{length, getD, set, replicate}
-use lib.Seq.{getD-set-same, getD-set-other}
+use lib.ListN.{getD, replicate}
 use Rattle.family.specs.Family.{least}
 use Rattle.family.proofs.Paths.{least-end, least-le, least-best, next-pick, best, pick, best-last, pick-last, best-step, pick-take, pick-skip}
 use Rattle.table.specs.Path.{SumAt, Stopped}
@@ -74,9 +71,3 @@ pub zeros : (n q : ℕ) → _≡_ {A = ℕ} (getD (replicate n 0) q 0) 0
 zeros zero q = refl
 zeros (suc n) zero = refl
 zeros (suc n) (suc q) = zeros n q
-
--- a list that holds P at the places after x, with P stored at x
-pub filled : (P : ℕ → ℕ → Type 0) (Q : ℕ → Type 0) (l : List ℕ) (x v : ℕ) → x < length l → P x v → ((y : ℕ) → x < y → Q y → P y (getD l y 0))
-    → (y : ℕ) → x ≤ y → Q y → P y (getD (set l x v) y 0)
-filled P Q l x v h here rest y a b =
-    ⊎-elim (λ e. rw (← e, getD-set-same l x v 0 h) here) (λ q. rw (getD-set-other l x y v 0 (omega arith)) (rest y q b)) (eq-or-lt-of-le a)

@@ -16,7 +16,8 @@ use Rattle.family.specs.Fine.{Fine}
 use Rattle.family.proofs.Local.{Without}
 use Rattle.table.specs.Table.{cell}
 use Rattle.costs.specs.Costs.{Named}
-use Rattle.costs.specs.Walk.{perm, Rewritten}
+use Rattle.permission.specs.Finest.{perm}
+use Rattle.costs.specs.Walk.{Rewritten}
 use Rattle.costs.proofs.Exit.{held-end, put-checked}
 use Rattle.trace.specs.declared.Trace.{Trace}
 use Rattle.trace.specs.declared.Changed.{Changed}

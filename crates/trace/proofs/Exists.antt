@@ -18,7 +18,7 @@ use Rattle.geometry.specs.Test.{judged}
 use Rattle.sample.proofs.Coordinate.{fewer-ranged}
 use Rattle.geometry.proofs.Spoiler.{judged-says}
 use Rattle.costs.specs.Costs.{named}
-use Rattle.costs.specs.Walk.{perm}
+use Rattle.permission.specs.Finest.{perm}
 use Rattle.costs.proofs.Exit.{rewritten-some}
 use Rattle.readout.specs.Read.{RanksRead}
 use Rattle.readout.proofs.Exists.{ranks-some}

@@ -14,7 +14,7 @@ use Rattle.sample.specs.Samples.{Samples}
 use Rattle.sizes.specs.Setup.{Tolerances}
 use Rattle.checks.specs.Numbers.{PutNumber}
 use Rattle.checks.proofs.Passed.{put-passed}
-use Rattle.costs.specs.Walk.{Rising}
+use Rattle.permission.specs.Finest.{Rising}
 use Rattle.costs.proofs.Exit.{put-steps}
 use Rattle.trace.specs.declared.Trace.{Trace}
 use Rattle.sizes.specs.Setup.{heldWith}

@@ -20,7 +20,8 @@ use Rattle.family.specs.Fine.{Checked}
 use Rattle.family.proofs.Local.{Without, value-same, put-unique}
 use Rattle.table.specs.Table.{cell}
 use Rattle.costs.specs.Costs.{Named}
-use Rattle.costs.specs.Walk.{perm, Rewritten}
+use Rattle.permission.specs.Finest.{perm}
+use Rattle.costs.specs.Walk.{Rewritten}
 use Rattle.costs.proofs.Exit.{Others, held-end, rewritten-kept}
 use Rattle.readout.proofs.Unique.{read-alike}
 use Rattle.readout.proofs.Meaning.{ranks-read}

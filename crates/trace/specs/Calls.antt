@@ -13,7 +13,8 @@ use Rattle.geometry.specs.Spoiler.{Spoiler}
 use Rattle.sizes.specs.declared.Sizes.{Sizes}
 use Rattle.sizes.specs.Setup.{kept, heldWith}
 use Rattle.checks.specs.Numbers.{StartNumber, PutNumber, AskNumber, ReadNumber}
-use Rattle.costs.specs.Costs.{Permit, CellsWritten, named}
+use Rattle.costs.specs.Costs.{Permit}
+use Rattle.costs.specs.Costs.{CellsWritten, named}
 use Rattle.readout.specs.Read.{RanksRead}
 use Rattle.trace.specs.declared.Trace.{Trace}
 use Rattle.trace.specs.declared.Started.{Started}

@@ -5,9 +5,10 @@ use native.Mathlib.Omega.{arith}
 use native.Mathlib.Nat.{mul-le-mul}
 use Rattle.costs.specs.Costs.{Named, named}
 use Rattle.sample.specs.Samples.{samples}
-use Rattle.costs.specs.Walk.{perm, Rewritten}
+use Rattle.permission.specs.Finest.{perm}
+use Rattle.costs.specs.Walk.{Rewritten}
 use Rattle.sample.proofs.Coordinate.{fewer-ranged}
-use Rattle.costs.proofs.Perm.{perm-adjacent}
+use Rattle.permission.proofs.Perm.{perm-adjacent}
 use Rattle.costs.proofs.Rows.{ends-none, ends-more}
 use Rattle.costs.proofs.Sums.{ends-settled}
 use Rattle.costs.proofs.Tally.{named-none, named-more, named-small}

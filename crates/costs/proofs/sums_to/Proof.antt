@@ -5,7 +5,8 @@ use native.Mathlib.Omega.{arith}
 use lib.ListN.{length, getD, length-set}
 use Rattle.table.specs.Table.{cell}
 use Rattle.table.specs.Path.{SumAt}
-use Rattle.table.proofs.Stops.{zeros, filled}
+use Rattle.algebra.proofs.Fill.{filled}
+use Rattle.table.proofs.Stops.{zeros}
 use Rattle.costs.proofs.Sums.{sums-end}
 use Rattle.costs.proofs.sums_to.Statement.{statement}
 use Rattle.costs.proofs.sums_to.Tie as tie

@@ -4,8 +4,8 @@ use mathlib.Core.Logic.{inl, inr, ⊎-elim}
 use Prim.Native.Nat.{_+_, min}
 use native.Mathlib.Omega.{arith}
 use Rattle.sample.specs.Samples.{samples}
-use Rattle.costs.specs.Walk.{perm}
-use Rattle.costs.proofs.Perm.{perm-adjacent, finest-near}
+use Rattle.permission.specs.Finest.{perm}
+use Rattle.permission.proofs.Perm.{perm-adjacent, finest-near}
 use Rattle.costs.proofs.Rows.{rows-said}
 use borrow.Author.Needs.{needs}
 use Rattle.costs.proofs.write_end.Statement.{statement}

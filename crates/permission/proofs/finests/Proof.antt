@@ -1,4 +1,4 @@
--- `costs::finests` meets its contract. The loop's invariant: the levels of the starts from i on, and m + 1 before i. Assumes nothing.
+-- `permission::finests` meets its contract. The loop's invariant: the levels of the starts from i on, and m + 1 before i. Assumes nothing.
 use mathlib.Core.Path.{_≡_, refl, _∙_}
 use mathlib.Core.Logic.{⊎-elim}
 use Prim.Native.Nat.{ℕ, _+_, _-_, _≤_, _<_}
@@ -6,12 +6,12 @@ use native.Mathlib.Decide.{decLe}
 use native.Mathlib.Omega.{arith}
 use lib.ListN.{length, getD, length-set, getD-replicate}
 use lib.Seq.{getD-set-other}
-use Rattle.table.proofs.Stops.{filled}
+use Rattle.algebra.proofs.Fill.{filled}
 use Rattle.sample.specs.Samples.{samples}
-use Rattle.costs.specs.Walk.{perm, Finest}
-use Rattle.costs.proofs.Perm.{perm-unmarked, perm-stops, finest-is, finest-same}
-use Rattle.costs.proofs.finests.Statement.{statement}
-use Rattle.costs.proofs.finests.Tie as tie
+use Rattle.permission.specs.Finest.{perm, Finest}
+use Rattle.permission.proofs.Perm.{perm-unmarked, perm-stops, finest-is, finest-same}
+use Rattle.permission.proofs.finests.Statement.{statement}
+use Rattle.permission.proofs.finests.Tie as tie
 
 abbrev Inv-loop : tie.InvT-loop
 Inv-loop xs ys marks tolerances m j top last levels₀ i₀ levels i =

@@ -1,38 +1,27 @@
--- Laws of a trace's permissions: the test decides the statement, neighbours are permitted, a higher level permits more, storing a sample changes only stretches with
--- it, and marks count apart from distances; and the finest level that permits a stretch. Assumes nothing.
+-- Laws of the test of a permission: neighbours are permitted, a higher level permits more, and marks count apart from distances; and the finest level that permits a stretch. Assumes nothing.
 use mathlib.Core.Path.{_≡_, refl, sym, _∙_}
-use mathlib.Core.Logic.{inl, inr}
 use mathlib.Core.Bool.{Bool, true, false}
 use mathlib.Core.List.{List}
 use Prim.Native.Nat.{ℕ, zero, suc, _+_, _-_, _≤_, _<_}
-use native.Mathlib.Nat.{le-refl, le-of-lt}
+use native.Mathlib.Nat.{le-refl}
 use native.Mathlib.Numerals.{add-one}
 use native.Mathlib.Decide.{decLe}
 use native.Mathlib.Omega.{arith}
 use borrow.Author.Tests.{leb-true, le-leb, lt-leb}
-use lib.IntN.{ℤ, pos}
-use lib.ListN.{getD, set}
-use lib.Seq.{getD-set-other}
-use Rattle.refusal.specs.Check.{Decides}
+use lib.IntN.{ℤ}
+use lib.ListN.{getD}
 use Rattle.refusal.proofs.Plain.{decides-unique}
 use Rattle.sample.specs.Coordinate.{InRange}
 use Rattle.geometry.specs.declared.Verdict.{Verdict}
 use Rattle.sample.specs.Mark.{Marked}
 use Rattle.geometry.specs.Near.{Along}
-use Rattle.sample.specs.declared.Sample.{Sample}
-use Rattle.sample.specs.Samples.{Samples, samples, store}
+use Rattle.sample.specs.Samples.{Samples, samples}
 use Rattle.geometry.specs.Spoiler.{Told, isYes}
-use Rattle.sample.specs.Sweep.{Ranged, noMarks}
+use Rattle.sample.specs.Sweep.{noMarks}
 use Rattle.geometry.proofs.Marks.{Unmarked, unmarked-says}
 use Rattle.geometry.proofs.Spoiler.{says-decides, permits-decided}
 use Rattle.geometry.proofs.Permits.{permits-wider, permits-adjacent, permits-same, permits-stops, Same}
-use Rattle.family.proofs.Local.{Without}
-use Rattle.costs.specs.Costs.{Permit}
-use Rattle.costs.specs.Walk.{perm, Rising, Finest}
-
-pub perm-decided : (xs : Samples) (tols : List ℕ) (k i j : ℕ) → Ranged xs (j + 1) → i < j → Decides (Permit xs tols k i j) (perm xs tols k i j)
-unfolding perm
-perm-decided xs tols k i j a o = permits-decided xs i j (getD tols (k - 1) 0) a o
+use Rattle.permission.specs.Finest.{perm, Rising, Finest}
 
 -- where no sample is marked, the test is yes exactly when the verdict by distance is
 pub perm-judged : (xs ys : List ℤ) (tols : List ℕ) (k i j : ℕ) (v : Verdict) → InRange xs (j + 1) → InRange ys (j + 1) → i < j
@@ -66,18 +55,6 @@ perm-higher xs tols m k l i j r a b d = permits-wider xs i j (rising tols m r (k
 pub perm-same : (xs vs : Samples) (tols : List ℕ) (k i j : ℕ) → Same xs vs i j → perm xs tols k i j ≡ perm vs tols k i j
 unfolding perm
 perm-same xs vs tols k i j = permits-same xs vs i j (getD tols (k - 1) 0)
-
--- a sample stored anew at v
-other-put : {A : Type 0} (s : List A) (v q i j : ℕ) (x d : A) → Without v i j → i ≤ q → q ≤ j → getD s q d ≡ getD (set s v x) q d
-other-put s v q i j x d (inl h) a b = sym (getD-set-other s v q x d (λ e. omega arith))
-other-put s v q i j x d (inr h) a b = sym (getD-set-other s v q x d (λ e. omega arith))
-
-pub perm-put : (xs : Samples) (tols : List ℕ) (v k i j : ℕ) (x : Sample) → Without v i j → perm xs tols k i j ≡ perm (store xs v x) tols k i j
-perm-put xs tols v k i j x w = perm-same xs (store xs v x) tols k i j (record {
-  across = λ q a b. other-put (xs .across) v q i j (x .across) (pos 0) w a b;
-  up = λ q a b. other-put (xs .up) v q i j (x .up) (pos 0) w a b;
-  marks = λ q a b. let e = other-put (xs .marks) v q i j (x .mark) 0 w (le-of-lt a) (le-of-lt b) in (λ h. sym e ∙ h, λ h. e ∙ h);
-})
 
 -- where no sample between is marked, as where none is at all
 pub perm-unmarked : (xs : Samples) (tols : List ℕ) (k i j : ℕ) → Unmarked (xs .marks) i j → perm (samples (xs .across) (xs .up) noMarks) tols k i j ≡ perm xs tols k i j

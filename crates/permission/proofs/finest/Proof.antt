@@ -1,4 +1,4 @@
--- `costs::finest` meets its contract. The loop's invariant: no level below k permits the stretch, and at level k its samples before `from` lie near. Assumes nothing.
+-- `permission::finest` meets its contract. The loop's invariant: no level below k permits the stretch, and at level k its samples before `from` lie near. Assumes nothing.
 use mathlib.Core.Path.{_≡_}
 use mathlib.Core.Bool.{false}
 use mathlib.Core.Logic.{⊎-elim}
@@ -12,10 +12,10 @@ use Rattle.geometry.specs.Spoiler.{Clear, isYes}
 use Rattle.geometry.proofs.Permits.{along-wider}
 use Rattle.sample.specs.Samples.{samples}
 use Rattle.sample.specs.Sweep.{noMarks}
-use Rattle.costs.specs.Walk.{perm}
-use Rattle.costs.proofs.Perm.{perm-judged, rising, perm-higher, finest-is}
-use Rattle.costs.proofs.finest.Statement.{statement}
-use Rattle.costs.proofs.finest.Tie as tie
+use Rattle.permission.specs.Finest.{perm}
+use Rattle.permission.proofs.Perm.{perm-judged, rising, perm-higher, finest-is}
+use Rattle.permission.proofs.finest.Statement.{statement}
+use Rattle.permission.proofs.finest.Tie as tie
 
 abbrev Inv-loop : tie.InvT-loop
 Inv-loop xs ys tolerances m i j from₀ k₀ from k =
