@@ -44,7 +44,8 @@ fn stored_ok(s: Sizes, xs: &[i16], ys: &[i16], marks: &[u8], table: &[u16]) -> b
     requires { ⌜ (s .levels ≤ 16) × (s .capacity ≤ 256) × (s .levels * (s .capacity * s .capacity) ≤ length (now table)) × (s .held ≤ s .capacity) ⌝ }
     ensures { λ r. ⌜ r ≡ storedOk s (samples (now (xs .entry)) (now (ys .entry)) (now (marks .entry))) (now (table .entry)) ⌝ }
 {
-    sample::samples_ok(xs, ys, marks, s.held) && table::cells_ok(table, s.capacity, s.held, s.levels)
+    sample::samples_ok(xs, ys, marks, s.held)
+        && table::cells_ok(table, s.capacity, s.held, s.levels)
 }
 
 // Whether there is such a stretch, and such a level.

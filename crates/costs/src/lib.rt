@@ -136,14 +136,7 @@ fn write_end(
 }
 
 // Write the cells of the stretches that hold sample v, of the samples held, end by end, and count them.
-pub fn rewrite(
-    table: &mut [u16],
-    xs: &[i16],
-    ys: &[i16],
-    marks: &[u8],
-    s: Sizes,
-    v: usize,
-) -> usize
+pub fn rewrite(table: &mut [u16], xs: &[i16], ys: &[i16], marks: &[u8], s: Sizes, v: usize) -> usize
     requires { ⌜ (1 ≤ s .levels) × (s .levels ≤ 16) × (s .capacity ≤ 256) × (v < s .held) × (s .held ≤ s .capacity) × (Rising (s .tolerances) (s .levels)) ⌝ }
     requires { ⌜ (Ranged (samples (now xs) (now ys) (now marks)) (s .held)) × (s .held ≤ length (now marks)) × (s .levels * (s .capacity * s .capacity) ≤ length (now table)) ⌝ }
     requires { ⌜ LowSteps (now table) (s .capacity) (s .levels) v (s .held) ⌝ }

@@ -4,7 +4,7 @@ ghost use Prim.Native.Nat.{_≤_, _<_};
 ghost use lib.ListN.{length};
 ghost use Rattle.sample.specs.Coordinate.{coordinateOk, coordinatesOk};
 ghost use Rattle.sample.specs.Mark.{markOk, marksOk};
-ghost use Rattle.sample.specs.Samples.{samples};
+ghost use Rattle.sample.specs.Samples.{samples, sampleAt};
 ghost use Rattle.sample.specs.Sweep.{FirstMarked, LastMarked};
 ghost use Rattle.sample.specs.Valid.{sampleOk, samplesOk};
 
@@ -97,6 +97,21 @@ pub fn samples_ok(xs: &[i16], ys: &[i16], marks: &[u8], n: usize) -> bool
         return false;
     }
     marks_ok(marks, n)
+}
+
+// Sample q of buffers that have it.
+pub fn sample_at(xs: &[i16], ys: &[i16], marks: &[u8], q: usize) -> Sample
+    requires { ⌜ (q < length (now xs)) × (q < length (now ys)) × (q < length (now marks)) ⌝ }
+    ensures { λ r. ⌜ r ≡ sampleAt (samples (now (xs .entry)) (now (ys .entry)) (now (marks .entry))) q ⌝ }
+{
+    let x = xs[q];
+    let y = ys[q];
+    let mark = marks[q];
+    Sample {
+        across: x,
+        up: y,
+        mark,
+    }
 }
 
 // The lowest marked sample of those from `from` on and before j, j where there is none.

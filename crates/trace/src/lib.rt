@@ -161,14 +161,7 @@ impl Trace {
         let mut cells = 0;
         let mut i = 0;
         while i < across.len() {
-            let x = across[i];
-            let y = up[i];
-            let mark = restarts[i];
-            let sample = Sample {
-                across: x,
-                up: y,
-                mark,
-            };
+            let sample = sample::sample_at(across, up, restarts, i);
             let trace = self.holding(held);
             let next = trace.admit(Outcome::Done, xs, ys, marks, table, held, sample);
             let after = i + 1;

@@ -2,10 +2,7 @@
 use mathlib.Core.Path.{refl, sym}
 use Prim.Native.Nat.{_-_, _<_}
 use native.Mathlib.Omega.{arith}
-use lib.IntN.{pos}
 use lib.ListN.{length, getD}
-use mir.Syntax.{w16}
-use mir.Facts.{toZ-ofZ}
 use borrow.Author.Needs.{needs}
 use Rattle.sample.specs.Samples.{samples}
 use Rattle.checks.proofs.Passed.{trace-passed}
@@ -36,37 +33,22 @@ left c = let s = c .before .before .before .before .before in omega (arith, zipp
 
 -- what is done with it
 next : (c : tie.After-admit Inv-loop μ-loop) →
-    let l = c .before .before .before .before .before .before .before .before .before in
+    let l = c .before .before .before .before .before .before .before in
     let i = l .before .loop in
     let a = l .before .before .before .before .before .args in
     PutGives (holding (a .self) (i .held)) (buffers (samples (i .xs) (i .ys) (i .marks)) (i .table)) (i .held) (getD (zipped (a .across .now) (a .up .now) (a .restarts .now)) (i .i) noSample) (c .admit .result)
     (buffers (samples (c .admit .last .1 .1 .0) (c .admit .last .1 .1 .1 .0) (c .admit .last .1 .1 .1 .1 .0)) (c .admit .last .1 .1 .1 .1 .1 .0))
 next c =
     let h = c .before .before .before .before .before in
-    let y = h .before .before in
-    let x = y .before in
+    let x = h .before in
     let l = x .before in
     let i = l .before .loop in
     let s = l .before .before .before .before .before in
     let a = s .args in
-    let p = toZ-ofZ {w = w16} {z = getD (a .across .now) (i .i) (pos 0)} (record { sfits = x .x .given }) in
-    let q = toZ-ofZ {w = w16} {z = getD (a .up .now) (i .i) (pos 0)} (record { sfits = y .y .given }) in
-    rw (zipped-at (a .across .now) (a .up .now) (a .restarts .now) (i .i) (s .pre .0) (omega arith)) (rw (p, q, h .holding .ensures) at (c .admit .ensures))
+    rw (zipped-at (a .across .now) (a .up .now) (a .restarts .now) (i .i) (s .pre .0) (omega arith)) (rw (x .sample-at .ensures, h .holding .ensures) at (c .admit .ensures))
 
-mul-x : tie.Need-mul-x Inv-loop μ-loop
-mul-x c = search needs
-
-shared-slice-copy-out-x : tie.Need-shared-slice-copy-out-x Inv-loop μ-loop
-shared-slice-copy-out-x c = search needs
-
-mul-y : tie.Need-mul-y Inv-loop μ-loop
-mul-y c = search needs
-
-shared-slice-copy-out-y : tie.Need-shared-slice-copy-out-y Inv-loop μ-loop
-shared-slice-copy-out-y c = search needs
-
-shared-slice-read-mark : tie.Need-shared-slice-read-mark Inv-loop μ-loop
-shared-slice-read-mark c = search needs
+sample-at-requires : tie.Need-sample-at-requires Inv-loop μ-loop
+sample-at-requires c κs = search needs
 
 holding-requires : tie.Need-holding-requires Inv-loop μ-loop
 holding-requires c κs = search needs
@@ -74,13 +56,13 @@ holding-requires c κs = search needs
 admit-requires : tie.Need-admit-requires Inv-loop μ-loop
 admit-requires c κs =
     let h = c .before .before .before .before in
-    let l = h .before .before .before .before in
+    let l = h .before .before in
     rw (h .holding .ensures) (sym (trace-passed _ _ _ .1 (l .before .loop .inv .ready (left l))))
 
 add-after : tie.Need-add-after Inv-loop μ-loop
 add-after c =
     let d = c .before .before .before .before .before .before in
-    let l = d .before .before .before .before .before .before .before .before .before in
+    let l = d .before .before .before .before .before .before .before in
     let U = l .before .loop .inv in
     let P = U .ready (left l) .0 in
     omega (arith, U .within, P .held, P .sized .3)
@@ -103,7 +85,7 @@ same-length-4 c = search needs
 returns : tie.Need-returns Inv-loop μ-loop
 returns c =
     let d = c .before .before .before .before .before .before .before .before .before in
-    let l = d .before .before .before .before .before .before .before .before .before in
+    let l = d .before .before .before .before .before .before .before in
     (rw (d .before .before .before .before .before .holding .ensures) (underway-stops (l .before .loop .inv) (left l) (next d) (c .before .o .given .1)), refl)
 
 enum-told : tie.Need-enum-told Inv-loop μ-loop
@@ -111,14 +93,14 @@ enum-told c = search needs
 
 add-held : tie.Need-add-held Inv-loop μ-loop
 add-held c =
-    let l = c .before .before .before .before .before .before .before .before .before .before .before .before .before .before .before .before .before in
+    let l = c .before .before .before .before .before .before .before .before .before .before .before .before .before .before .before in
     let P = l .before .loop .inv .ready (left l) .0 in
     omega (arith, P .held, P .sized .3)
 
 add-cells : tie.Need-add-cells Inv-loop μ-loop
 add-cells c =
     let d = c .before .before .before .before .before .before .before .before .before in
-    let l = d .before .before .before .before .before .before .before .before .before in
+    let l = d .before .before .before .before .before .before .before in
     let U = l .before .loop .inv in
     let P = U .ready (left l) .0 in
     omega (arith, U .within, U .few, P .held, P .sized .3, next-few U (left l) (next d) (c .before .enum-told .given .1))
@@ -129,7 +111,7 @@ loop-less c = search needs
 loop-again : tie.Need-loop-again Inv-loop μ-loop
 loop-again c =
     let d = c .before .before .before .before .before .before .before .before .before in
-    let l = d .before .before .before .before .before .before .before .before .before in
+    let l = d .before .before .before .before .before .before .before in
     underway-more (l .before .loop .inv) (left l) (next d) (c .before .enum-told .given .1)
 
 holding-requires-2 : tie.Need-holding-requires-2 Inv-loop μ-loop
@@ -160,11 +142,7 @@ add-each-spec =
     Inv-loop
     μ-loop
     loop-holds
-    mul-x
-    shared-slice-copy-out-x
-    mul-y
-    shared-slice-copy-out-y
-    shared-slice-read-mark
+    sample-at-requires
     holding-requires
     admit-requires
     add-after
