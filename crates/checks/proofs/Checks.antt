@@ -13,7 +13,7 @@ use Rattle.sample.specs.Samples.{Samples}
 use Rattle.sizes.specs.declared.Sizes.{Sizes}
 use Rattle.sizes.specs.Setup.{Sized}
 use Rattle.sizes.specs.Rows.{setupOutcome}
-use Rattle.checks.specs.Rows.{lengths, samplesLent, tableLent, heldOutcome, lentOutcome}
+use Rattle.checks.specs.Rows.{lengths, samplesLent, tableLent, lentOutcome}
 use Rattle.sizes.proofs.Decided.{setup-done}
 use Rattle.checks.proofs.Decided.{lent-samples, lent-table}
 
@@ -24,7 +24,7 @@ pub record Lent (a : Sizes) (lent : Bool) : Type 0 where
   pub held : a .held ≤ a .capacity
 
 pub lent-done : (a : Sizes) (lent : Bool) → lentOutcome a lent ≡ Done → Lent a lent
-unfolding lentOutcome heldOutcome
+unfolding lentOutcome
 lent-done a lent h =
     let s = then-done (setupOutcome (a .levels) (a .capacity) (a .tolerances)) _ h in
     let l = then-done _ _ (s .1) in

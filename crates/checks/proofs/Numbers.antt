@@ -23,7 +23,7 @@ use Rattle.sample.specs.Valid.{Valid}
 use Rattle.sizes.specs.Setup.{SetupNumber}
 use Rattle.checks.specs.Numbers.{LentSamples, LentTable, StoredSamples, StoredCells, TraceNumber, PlaceNumber, Good, StartNumber, PutNumber, AskNumber, ReadNumber}
 use Rattle.sizes.specs.Rows.{setupOutcome}
-use Rattle.checks.specs.Rows.{heldOutcome, lentOutcome, samplesOutcome, traceOutcome, placeOutcome, sampleOutcome, putOutcome, askOutcome, readOutcome}
+use Rattle.checks.specs.Rows.{lentOutcome, samplesOutcome, traceOutcome, placeOutcome, sampleOutcome, putOutcome, askOutcome, readOutcome}
 use Rattle.sample.proofs.Decided.{samples-decided, sample-decided}
 use Rattle.sizes.proofs.Decided.{setup-row}
 use Rattle.checks.proofs.Decided.{lent-samples, lent-table, lent-ranks, stored-decided, there-decided, absent, not-both}
@@ -32,7 +32,7 @@ use Rattle.checks.proofs.Checks.{lent-done}
 -- ---- the shared rows: 1 and 2, 1 to 4, 1 to 5
 pub held-row : (a : Sizes) {Lent : Type 0} (lent : Bool) → Decides Lent lent
     → Row (lentOutcome a lent) (λ rest. SetupNumber (a .levels) (a .capacity) (a .tolerances) (First 3 (Lent → ⊥) (First 4 (a .capacity < a .held) rest)))
-unfolding lentOutcome heldOutcome
+unfolding lentOutcome
 held-row a lent d =
     then-row _ _ (setup-row (a .levels) (a .capacity) (a .tolerances))
     (λ e. then-row _ _ (unless-row _ Buffer d)

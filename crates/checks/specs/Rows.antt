@@ -29,13 +29,11 @@ samplesLent N l = (leb N (l .across) && leb N (l .up)) && leb N (l .marks)
 abbrev pub tableLent : Sizes → ℕ → Bool
 tableLent a cells = leb (a .levels * (a .capacity * a .capacity)) cells
 
--- 3 and 4, by whether all that is lent is long enough
-unfoldable pub heldOutcome : Sizes → Bool → Outcome
-heldOutcome a lent = andThen (unless lent Buffer) (unless (leb (a .held) (a .capacity)) Held)
-
--- 1 to 4
+-- 1 to 4, by whether all that is lent is long enough
 unfoldable pub lentOutcome : Sizes → Bool → Outcome
-lentOutcome a lent = andThen (setupOutcome (a .levels) (a .capacity) (a .tolerances)) (heldOutcome a lent)
+lentOutcome a lent =
+    andThen (setupOutcome (a .levels) (a .capacity) (a .tolerances))
+    (andThen (unless lent Buffer) (unless (leb (a .held) (a .capacity)) Held))
 
 -- 5 of the samples and of the cells
 unfoldable pub storedOk : Sizes → Samples → List ℕ → Bool

@@ -5,7 +5,7 @@ ghost use mathlib.Core.Bool.{_&&_};
 ghost use lib.Dec.{leb};
 ghost use lib.ListN.{length};
 ghost use Rattle.sample.specs.Samples.{samples};
-ghost use Rattle.checks.specs.Rows.{samplesLent, tableLent, heldOutcome, lentOutcome, storedOk, stretchOk, listsOk, samplesOutcome, traceOutcome, placeOutcome, sampleOutcome, uploadOutcome, askOutcome, readOutcome};
+ghost use Rattle.checks.specs.Rows.{samplesLent, tableLent, lentOutcome, storedOk, stretchOk, listsOk, samplesOutcome, traceOutcome, placeOutcome, sampleOutcome, uploadOutcome, askOutcome, readOutcome};
 use refusal::Outcome;
 use refusal::Refusal;
 use refusal::and_then;
@@ -29,13 +29,15 @@ fn samples_lent(cap: usize, lent: Lengths) -> bool
     (cap <= lent.across) & (cap <= lent.up) & (cap <= lent.marks)
 }
 
-// Whether a table so long has m · N · N cells.
+// Whether a table so long has m · N · N cells; by quotients, so that no size is too large to be tested.
 fn table_lent(s: Sizes, cells: usize) -> bool
-    requires { ⌜ (s .levels ≤ 16) × (s .capacity ≤ 256) ⌝ }
     ensures { λ r. ⌜ r ≡ tableLent s cells ⌝ }
 {
     let cap = s.capacity;
-    s.levels * (cap * cap) <= cells
+    if cap == 0 {
+        return true;
+    }
+    s.levels <= cells / cap / cap
 }
 
 // Whether the samples held are valid, and the cells of their stretches may hold what they hold.
@@ -71,56 +73,18 @@ fn lists_ok(lists: Lengths) -> bool
     (lists.across == lists.up) & (lists.across == lists.marks)
 }
 
-// ---- 1 to 4, by lengths
-// Refusals 3 and 4, by whether all that is lent is long enough.
-fn held_outcome(s: Sizes, lent: bool) -> Outcome
-    ensures { λ r. ⌜ r ≡ heldOutcome s lent ⌝ }
+// ---- the rows
+// Refusals 1 to 4, by whether all that is lent is long enough.
+pub fn lent_outcome(s: Sizes, lent: bool) -> Outcome
+    ensures { λ r. ⌜ r ≡ lentOutcome s lent ⌝ }
 {
+    let tolerances = s.tolerances;
+    let setup = setup_outcome(s.levels, s.capacity, tolerances);
     let long = unless(lent, Refusal::Buffer);
     let held = unless(s.held <= s.capacity, Refusal::Held);
-    and_then(long, held)
+    and_then(setup, and_then(long, held))
 }
 
-// Refusals 1 to 4 of a call that is lent the samples alone.
-fn samples_room(s: Sizes, lent: Lengths) -> Outcome
-    ensures { λ r. ⌜ r ≡ lentOutcome s (samplesLent (s .capacity) lent) ⌝ }
-{
-    let tolerances = s.tolerances;
-    let o = setup_outcome(s.levels, s.capacity, tolerances);
-    let Outcome::Done = o else {
-        return o;
-    };
-    held_outcome(s, samples_lent(s.capacity, lent))
-}
-
-// Of one that is lent a table too.
-fn table_room(s: Sizes, lent: Lengths, cells: usize) -> Outcome
-    ensures { λ r. ⌜ r ≡ lentOutcome s (samplesLent (s .capacity) lent && tableLent s cells) ⌝ }
-{
-    let tolerances = s.tolerances;
-    let o = setup_outcome(s.levels, s.capacity, tolerances);
-    let Outcome::Done = o else {
-        return o;
-    };
-    held_outcome(s, samples_lent(s.capacity, lent) & table_lent(s, cells))
-}
-
-// And of one that is lent the ranks as well.
-fn ranks_room(s: Sizes, lent: Lengths, cells: usize, bytes: usize) -> Outcome
-    ensures { λ r. ⌜ r ≡ lentOutcome s ((samplesLent (s .capacity) lent && tableLent s cells) && leb (s .held) bytes) ⌝ }
-{
-    let tolerances = s.tolerances;
-    let o = setup_outcome(s.levels, s.capacity, tolerances);
-    let Outcome::Done = o else {
-        return o;
-    };
-    held_outcome(
-        s,
-        samples_lent(s.capacity, lent) & table_lent(s, cells) & (s.held <= bytes),
-    )
-}
-
-// ---- the rows
 // Refusals 1 to 5 of a call that is lent the samples alone.
 pub fn samples_outcome(s: Sizes, xs: &[i16], ys: &[i16], marks: &[u8]) -> Outcome
     ensures { λ r. ⌜ r ≡ samplesOutcome s (samples (now (xs .entry)) (now (ys .entry)) (now (marks .entry))) ⌝ }
@@ -130,7 +94,7 @@ pub fn samples_outcome(s: Sizes, xs: &[i16], ys: &[i16], marks: &[u8]) -> Outcom
         up: ys.len(),
         marks: marks.len(),
     };
-    let o = samples_room(s, lent);
+    let o = lent_outcome(s, samples_lent(s.capacity, lent));
     let Outcome::Done = o else {
         return o;
     };
@@ -146,7 +110,8 @@ pub fn trace_outcome(s: Sizes, xs: &[i16], ys: &[i16], marks: &[u8], table: &[u1
         up: ys.len(),
         marks: marks.len(),
     };
-    let o = table_room(s, lent, table.len());
+    let long = samples_lent(s.capacity, lent) & table_lent(s, table.len());
+    let o = lent_outcome(s, long);
     let Outcome::Done = o else {
         return o;
     };
@@ -226,7 +191,8 @@ pub fn read_outcome(
         up: ys.len(),
         marks: marks.len(),
     };
-    let o = ranks_room(s, lent, table.len(), bytes);
+    let long = samples_lent(s.capacity, lent) & table_lent(s, table.len()) & (s.held <= bytes);
+    let o = lent_outcome(s, long);
     let Outcome::Done = o else {
         return o;
     };

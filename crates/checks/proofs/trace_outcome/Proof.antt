@@ -1,5 +1,5 @@
 -- `checks::trace_outcome` meets its contract. Assumes nothing.
-use mathlib.Core.Path.{_≡_, sym, _∙_}
+use mathlib.Core.Path.{_≡_, sym, ap, ap₂, _∙_}
 use mathlib.Core.Bool.{_&&_}
 use lib.ListN.{length}
 use borrow.Author.Needs.{needs}
@@ -11,14 +11,25 @@ use Rattle.checks.proofs.Checks.{lent-done, table-held}
 use Rattle.checks.proofs.trace_outcome.Statement.{statement}
 use Rattle.checks.proofs.trace_outcome.Tie as tie
 
--- in the arm that goes on checks 1 to 4 have passed
-passed : (c : tie.After-enum-told) →
+-- what checks 1 to 4 said, and that they passed in the arm that goes on
+room : (c : tie.After-lent-outcome) →
     let a = c .before .before .before .before .before .args in
-    lentOutcome (a .s) (samplesLent (a .s .capacity) (lengths (samples (a .xs .now) (a .ys .now) (a .marks .now))) && tableLent (a .s) (length (a .table .now))) ≡ Done
-passed c = sym (c .before .before .table-room .ensures) ∙ c .enum-told .given .1
+    c .lent-outcome .result ≡ lentOutcome (a .s) (samplesLent (a .s .capacity) (lengths (samples (a .xs .now) (a .ys .now) (a .marks .now))) && tableLent (a .s) (length (a .table .now)))
+room c = c .lent-outcome .ensures ∙ ap (lentOutcome _) (ap₂ _&&_ (c .before .before .samples-lent .ensures) (c .before .table-lent .ensures))
 
-table-room-requires : tie.Need-table-room-requires
-table-room-requires c κs = search needs
+passed : (c : tie.After-enum-told) →
+    let a = c .before .before .before .before .before .before .before .args in
+    lentOutcome (a .s) (samplesLent (a .s .capacity) (lengths (samples (a .xs .now) (a .ys .now) (a .marks .now))) && tableLent (a .s) (length (a .table .now))) ≡ Done
+passed c = sym (room (c .before .before)) ∙ c .enum-told .given .1
+
+samples-lent-requires : tie.Need-samples-lent-requires
+samples-lent-requires c κs = search needs
+
+table-lent-requires : tie.Need-table-lent-requires
+table-lent-requires c κs = search needs
+
+lent-outcome-requires : tie.Need-lent-outcome-requires
+lent-outcome-requires c κs = search needs
 
 enum-told : tie.Need-enum-told
 enum-told c = search needs
@@ -28,11 +39,11 @@ enum-told-2 c = search needs
 
 returns : tie.Need-returns
 unfolding traceOutcome
-returns c = then-refused _ (c .before .before .table-room .ensures) (c .enum-told2 .given .1)
+returns c = then-refused _ (room (c .before .before)) (c .enum-told2 .given .1)
 
 stored-ok-requires : tie.Need-stored-ok-requires
 stored-ok-requires c κs =
-    let a = c .before .before .before .before .before .args in
+    let a = c .before .before .before .before .before .before .before .args in
     let l = lent-done (a .s) _ (passed c) in
     table-held (a .s) (samples (a .xs .now) (a .ys .now) (a .marks .now)) (a .table .now) l (l .long)
 
@@ -49,7 +60,9 @@ pub trace-outcome-spec : {M : Type 1} → statement M
 trace-outcome-spec =
     tie.close
     (tie.spec
-    table-room-requires
+    samples-lent-requires
+    table-lent-requires
+    lent-outcome-requires
     enum-told
     enum-told-2
     returns
