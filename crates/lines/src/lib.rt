@@ -3,7 +3,7 @@ ghost use mathlib.Core.List.{_∷_};
 ghost use Prim.Native.Nat.{_≤_};
 ghost use lib.ListN.{length, getD};
 ghost use Rattle.refusal.specs.Number.{code};
-ghost use Rattle.text.specs.Text.{Written, decimal};
+ghost use Rattle.text.specs.Text.{Written, signedDecimal};
 ghost use Rattle.lines.specs.Lines.{refusedLine, countsLine, sampleLine, countedLine, pauseText};
 ghost use Rattle.lines.specs.Held.{heldLines, heldText};
 use refusal::Outcome;
@@ -15,8 +15,7 @@ pub const LEVELS: usize = 3;
 pub fn refused_line(out: &mut [u8], why: Outcome) -> usize
     ensures { λ r. ⌜ Written (now (out .entry)) 0 (refusedLine (code why)) (now (out .exit)) r ⌝ }
 {
-    let at = text::bytes(out, 0, b"refused ");
-    let at = text::number(out, at, refusal::number(why) as u64);
+    let at = text::labelled(out, 0, b"refused ", refusal::number(why) as u64);
     text::byte(out, at, b'\n')
 }
 
@@ -25,11 +24,18 @@ fn counts_line(out: &mut [u8], at: usize, samples: usize) -> usize
     requires { ⌜ at ≤ length (now out) ⌝ }
     ensures { λ r. ⌜ Written (now (out .entry)) at (countsLine samples) (now (out .exit)) r ⌝ }
 {
-    let at = text::bytes(out, at, b"samples ");
-    let at = text::number(out, at, samples as u64);
-    let at = text::bytes(out, at, b" levels ");
-    let at = text::number(out, at, LEVELS as u64);
+    let at = text::labelled(out, at, b"samples ", samples as u64);
+    let at = text::labelled(out, at, b" levels ", LEVELS as u64);
     text::byte(out, at, b'\n')
+}
+
+// A coordinate after a space.
+fn coordinate(out: &mut [u8], at: usize, z: i16) -> usize
+    requires { ⌜ at ≤ length (now out) ⌝ }
+    ensures { λ r. ⌜ Written (now (out .entry)) at (32 ∷ signedDecimal z) (now (out .exit)) r ⌝ }
+{
+    let at = text::byte(out, at, b' ');
+    text::signed(out, at, z)
 }
 
 // The line of sample i: its number, across, up, rank.
@@ -38,12 +44,9 @@ fn sample_line(out: &mut [u8], at: usize, i: usize, x: i16, y: i16, rank: u8) ->
     ensures { λ r. ⌜ Written (now (out .entry)) at (sampleLine i x y rank) (now (out .exit)) r ⌝ }
 {
     let at = text::number(out, at, i as u64);
-    let at = text::byte(out, at, b' ');
-    let at = text::signed(out, at, x);
-    let at = text::byte(out, at, b' ');
-    let at = text::signed(out, at, y);
-    let at = text::byte(out, at, b' ');
-    let at = text::number(out, at, rank as u64);
+    let at = coordinate(out, at, x);
+    let at = coordinate(out, at, y);
+    let at = text::labelled(out, at, b" ", rank as u64);
     text::byte(out, at, b'\n')
 }
 
@@ -65,15 +68,6 @@ fn sample_lines(out: &mut [u8], at: usize, xs: &[i16], ys: &[i16], ranks: &[u8],
     end
 }
 
-// A number after a space.
-fn spaced(out: &mut [u8], at: usize, n: u64) -> usize
-    requires { ⌜ at ≤ length (now out) ⌝ }
-    ensures { λ r. ⌜ Written (now (out .entry)) at (32 ∷ decimal n) (now (out .exit)) r ⌝ }
-{
-    let at = text::byte(out, at, b' ');
-    text::number(out, at, n)
-}
-
 // The line of segments: the total, and the count of each level.
 fn segments_line(out: &mut [u8], at: usize, total: u32, segments: [u16; 16]) -> usize
     requires { ⌜ at ≤ length (now out) ⌝ }
@@ -83,11 +77,10 @@ fn segments_line(out: &mut [u8], at: usize, total: u32, segments: [u16; 16]) -> 
     let fine = segments[0] as u64;
     let middle = segments[1] as u64;
     let coarse = segments[2] as u64;
-    let at = text::bytes(out, at, b"segments ");
-    let at = text::number(out, at, total as u64);
-    let at = spaced(out, at, fine);
-    let at = spaced(out, at, middle);
-    let at = spaced(out, at, coarse);
+    let at = text::labelled(out, at, b"segments ", total as u64);
+    let at = text::labelled(out, at, b" ", fine);
+    let at = text::labelled(out, at, b" ", middle);
+    let at = text::labelled(out, at, b" ", coarse);
     text::byte(out, at, b'\n')
 }
 
@@ -96,8 +89,7 @@ fn pause_line(out: &mut [u8], at: usize, sum: u64) -> usize
     requires { ⌜ at ≤ length (now out) ⌝ }
     ensures { λ r. ⌜ Written (now (out .entry)) at (pauseText sum) (now (out .exit)) r ⌝ }
 {
-    let at = text::bytes(out, at, b"pause ");
-    let at = text::number(out, at, sum);
+    let at = text::labelled(out, at, b"pause ", sum);
     text::byte(out, at, b'\n')
 }
 

@@ -1,6 +1,6 @@
 // Text into a lent buffer: bytes and decimal numbers, one after the other, cut where the buffer ends.
 ghost use mathlib.Core.Path.{_≡_};
-ghost use mathlib.Core.List.{[], _∷_};
+ghost use mathlib.Core.List.{[], _∷_, _++_};
 ghost use Prim.Native.Nat.{_≤_};
 ghost use lib.IntN.{natAbs};
 ghost use lib.ListN.{length};
@@ -40,6 +40,15 @@ pub fn number(out: &mut [u8], at: usize, n: u64) -> usize
     let mut digits = [0u8; 20];
     let k = io::decimal(n, &mut digits);
     bytes(out, at, &digits[..k])
+}
+
+// A text, and a number in decimal after it.
+pub fn labelled(out: &mut [u8], at: usize, label: &[u8], n: u64) -> usize
+    requires { ⌜ at ≤ length (now out) ⌝ }
+    ensures { λ r. ⌜ Written (now (out .entry)) at (now (label .entry) ++ decimal n) (now (out .exit)) r ⌝ }
+{
+    let at = bytes(out, at, label);
+    number(out, at, n)
 }
 
 // The magnitude of a signed number.

@@ -1,33 +1,27 @@
 -- `lines::sample_line` meets its contract: a coordinate is read back from its bits. Assumes nothing.
 use borrow.Author.Needs.{needs}
-use Rattle.text.proofs.Written.{written-more}
 use mir.Facts.{toZ-ofZ}
+use Rattle.text.proofs.Written.{written-more}
 use Rattle.lines.proofs.sample_line.Statement.{statement}
 use Rattle.lines.proofs.sample_line.Tie as tie
 
 number-requires : tie.Need-number-requires
 number-requires c κs = search needs
 
+coordinate-requires : tie.Need-coordinate-requires
+coordinate-requires c κs = search needs
+
+coordinate-requires-2 : tie.Need-coordinate-requires-2
+coordinate-requires-2 c κs = search needs
+
+slice-aggregate-labelled : tie.Need-slice-aggregate-labelled
+slice-aggregate-labelled c = search needs
+
+labelled-requires : tie.Need-labelled-requires
+labelled-requires c κs = search needs
+
 byte-requires : tie.Need-byte-requires
 byte-requires c κs = search needs
-
-signed-requires : tie.Need-signed-requires
-signed-requires c κs = search needs
-
-byte-requires-2 : tie.Need-byte-requires-2
-byte-requires-2 c κs = search needs
-
-signed-requires-2 : tie.Need-signed-requires-2
-signed-requires-2 c κs = search needs
-
-byte-requires-3 : tie.Need-byte-requires-3
-byte-requires-3 c κs = search needs
-
-number-requires-2 : tie.Need-number-requires-2
-number-requires-2 c κs = search needs
-
-byte-requires-4 : tie.Need-byte-requires-4
-byte-requires-4 c κs = search needs
 
 same-length : tie.Need-same-length
 same-length c = search needs
@@ -36,29 +30,22 @@ returns : tie.Need-returns
 returns c =
     let end = c .before .before in
     let rank = end .before .before .before .before in
-    let gap3 = rank .before .before .before .before in
-    let y = gap3 .before .before .before .before in
-    let gap2 = y .before .before .before .before in
-    let x = gap2 .before .before .before .before in
-    let gap1 = x .before .before .before .before in
-    let i = gap1 .before .before .before .before in
+    let y = rank .before .before .before .before .before in
+    let x = y .before .before .before .before in
+    let i = x .before .before .before .before in
     let f = i .before .before .before .fits in
-    let across = written-more (gap1 .byte .ensures) (rw (toZ-ofZ (f .x)) at (x .signed .ensures)) in
-    let up = written-more (gap2 .byte2 .ensures) (rw (toZ-ofZ (f .y)) at (y .signed2 .ensures)) in
-    let placed = written-more (written-more (i .number .ensures) across) up in
-    written-more (written-more placed (written-more (gap3 .byte3 .ensures) (rank .number2 .ensures))) (end .byte4 .ensures)
+    let placed = written-more (written-more (i .number .ensures) (rw (toZ-ofZ (f .x)) at (x .coordinate .ensures))) (rw (toZ-ofZ (f .y)) at (y .coordinate2 .ensures)) in
+    written-more (written-more placed (rank .labelled .ensures)) (end .byte .ensures)
 
 pub sample-line-spec : {M : Type 1} → statement M
 sample-line-spec =
     tie.close
     (tie.spec
     number-requires
+    coordinate-requires
+    coordinate-requires-2
+    slice-aggregate-labelled
+    labelled-requires
     byte-requires
-    signed-requires
-    byte-requires-2
-    signed-requires-2
-    byte-requires-3
-    number-requires-2
-    byte-requires-4
     same-length
     returns)

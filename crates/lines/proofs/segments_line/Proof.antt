@@ -22,23 +22,29 @@ array-read-coarse c = search needs
 cast-coarse : tie.Need-cast-coarse
 cast-coarse c = search needs
 
-slice-aggregate-bytes : tie.Need-slice-aggregate-bytes
-slice-aggregate-bytes c = search needs
+slice-aggregate-labelled : tie.Need-slice-aggregate-labelled
+slice-aggregate-labelled c = search needs
 
-bytes-requires : tie.Need-bytes-requires
-bytes-requires c κs = search needs
+labelled-requires : tie.Need-labelled-requires
+labelled-requires c κs = search needs
 
-number-requires : tie.Need-number-requires
-number-requires c κs = search needs
+slice-aggregate-labelled-2 : tie.Need-slice-aggregate-labelled-2
+slice-aggregate-labelled-2 c = search needs
 
-spaced-requires : tie.Need-spaced-requires
-spaced-requires c κs = search needs
+labelled-requires-2 : tie.Need-labelled-requires-2
+labelled-requires-2 c κs = search needs
 
-spaced-requires-2 : tie.Need-spaced-requires-2
-spaced-requires-2 c κs = search needs
+slice-aggregate-labelled-3 : tie.Need-slice-aggregate-labelled-3
+slice-aggregate-labelled-3 c = search needs
 
-spaced-requires-3 : tie.Need-spaced-requires-3
-spaced-requires-3 c κs = search needs
+labelled-requires-3 : tie.Need-labelled-requires-3
+labelled-requires-3 c κs = search needs
+
+slice-aggregate-labelled-4 : tie.Need-slice-aggregate-labelled-4
+slice-aggregate-labelled-4 c = search needs
+
+labelled-requires-4 : tie.Need-labelled-requires-4
+labelled-requires-4 c κs = search needs
 
 byte-requires : tie.Need-byte-requires
 byte-requires c κs = search needs
@@ -50,12 +56,11 @@ returns : tie.Need-returns
 returns c =
     let end = c .before .before in
     let coarse = end .before .before .before .before in
-    let middle = coarse .before .before .before .before in
-    let fine = middle .before .before .before .before in
-    let total = fine .before .before .before .before in
-    let word = total .before .before .before .before in
-    let counted = written-more (written-more (word .bytes .ensures) (total .number .ensures)) (fine .spaced .ensures) in
-    written-more (written-more (written-more counted (middle .spaced2 .ensures)) (coarse .spaced3 .ensures)) (end .byte .ensures)
+    let middle = coarse .before .before .before .before .before in
+    let fine = middle .before .before .before .before .before in
+    let total = fine .before .before .before .before .before in
+    let counted = written-more (written-more (total .labelled .ensures) (fine .labelled2 .ensures)) (middle .labelled3 .ensures) in
+    written-more (written-more counted (coarse .labelled4 .ensures)) (end .byte .ensures)
 
 pub segments-line-spec : {M : Type 1} → statement M
 segments-line-spec =
@@ -67,12 +72,14 @@ segments-line-spec =
     cast-middle
     array-read-coarse
     cast-coarse
-    slice-aggregate-bytes
-    bytes-requires
-    number-requires
-    spaced-requires
-    spaced-requires-2
-    spaced-requires-3
+    slice-aggregate-labelled
+    labelled-requires
+    slice-aggregate-labelled-2
+    labelled-requires-2
+    slice-aggregate-labelled-3
+    labelled-requires-3
+    slice-aggregate-labelled-4
+    labelled-requires-4
     byte-requires
     same-length
     returns)
