@@ -145,8 +145,9 @@ module _ {a c : Trace} {b d : Buffers} {zs : List Sample} {i cells : ℕ} (U : U
 
   module _ (l : i < length zs) {r : Changed} {f : Buffers} (G : PutGives c d (c .held) (getD zs i noSample) r f) where
     -- the next is refused
-    pub underway-stops : {why : Refusal} → r .outcome ≡ Refused why → Puts a b zs (uploaded (Stop.Refused why) c i cells) f
-    underway-stops {why} h = rw (add-zero i, add-zero cells, G .refused why h .trace) at (U .leads (uploaded (Stop.Refused why) (r .trace) 0 0) f (rw (drop-cons zs i noSample l) (one-refused G h)))
+    pub underway-stops : {t : Trace} {why : Refusal} → t ≡ c → r .outcome ≡ Refused why → Puts a b zs (uploaded (Stop.Refused why) t i cells) f
+    underway-stops {why = why} e h =
+        rw e (rw (add-zero i, add-zero cells, G .refused why h .trace) at (U .leads (uploaded (Stop.Refused why) (r .trace) 0 0) f (rw (drop-cons zs i noSample l) (one-refused G h))))
 
     -- or it is put
     module _ (h : r .outcome ≡ Done) where

@@ -1,5 +1,5 @@
 -- `change::change` meets its contract: the stores are `store`, and the walk does the rest. Assumes nothing.
-use mathlib.Core.Path.{_≡_, ap₂}
+use mathlib.Core.Path.{_≡_, sym, ap₂, subst}
 use native.Mathlib.Omega.{arith}
 use lib.IntN.{ℤ}
 use lib.ListN.{set, length-set}
@@ -7,7 +7,8 @@ use mir.Syntax.{w16}
 use mir.Val.{toZ, ofZ}
 use mir.Facts.{toZ-ofZ}
 use borrow.Author.Needs.{needs}
-use Rattle.sample.specs.Samples.{samples}
+use Rattle.sample.specs.Samples.{Samples, samples, store}
+use Rattle.sample.specs.Sweep.{Ranged}
 use Rattle.change.proofs.change.Statement.{statement}
 use Rattle.change.proofs.change.Tie as tie
 
@@ -17,6 +18,15 @@ across c = toZ-ofZ (record { sfits = c .struct-told .given .0 .1 })
 
 up : (c : tie.After-struct-told2) → let y = c .before .before .before .before .args .sample .up in toZ w16 (ofZ w16 y) ≡ y
 up c = toZ-ofZ (record { sfits = c .struct-told2 .given .1 .0 .1 })
+
+-- so what is stored is the sample
+stored : (c : tie.After-struct-told2) →
+    let a = c .before .before .before .before .args in
+    samples (set (a .xs .now) (a .v) (toZ w16 (ofZ w16 (a .sample .across)))) (set (a .ys .now) (a .v) (toZ w16 (ofZ w16 (a .sample .up)))) (set (a .marks .now) (a .v) (a .sample .mark))
+    ≡ store (samples (a .xs .now) (a .ys .now) (a .marks .now)) (a .v) (a .sample)
+stored c =
+    let a = c .before .before .before .before .args in
+    ap₂ (λ (x y : ℤ). samples (set (a .xs .now) (a .v) x) (set (a .ys .now) (a .v) y) (set (a .marks .now) (a .v) (a .sample .mark))) (across (c .before)) (up c)
 
 mul-x : tie.Need-mul-x
 mul-x c = search needs
@@ -44,7 +54,7 @@ rewrite-requires c κs =
     let p = s .pre in
     let z = p .sizes in (
       (z .0, z .1, z .2, z .3, z .4, p .rising),
-      ((rw (across (d .before), up d) (p .ranged), rw (length-set (s .args .marks .now) (s .args .v) (s .args .sample .mark)) (p .marks), p .room), p .steps),
+      ((subst (λ (xs : Samples). Ranged xs (s .args .s .held)) (sym (stored d)) (p .ranged), rw (length-set (s .args .marks .now) (s .args .v) (s .args .sample .mark)) (p .marks), p .room), p .steps),
     )
 
 same-length : tie.Need-same-length
@@ -62,13 +72,8 @@ same-length-4 c = search needs
 returns : tie.Need-returns
 returns c =
     let d = c .before .before .before .before .before .before .before in
-    let a = d .before .before .before .before .args in
     let w = c .before .before .rewrite .ensures in
-    record {
-      samples = ap₂ (λ (x y : ℤ). samples (set (a .xs .now) (a .v) x) (set (a .ys .now) (a .v) y) (set (a .marks .now) (a .v) (a .sample .mark))) (across (d .before)) (up d);
-      cells = rw (across (d .before), up d) at (w .1);
-      count = w .0;
-    }
+    record { samples = stored d; cells = rw (stored d) at (w .1); count = w .0 }
 
 pub change-spec : {M : Type 1} → statement M
 change-spec =

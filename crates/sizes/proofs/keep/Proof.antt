@@ -27,7 +27,7 @@ abbrev Inv-loop : tie.InvT-loop
 Inv-loop m tolerances out₀ l₀ out l = (l ≤ m) × (out ≡ kept l tolerances)
 
 abbrev μ-loop : tie.MeasureT-loop
-μ-loop m tolerances out₀ l₀ out l = m - l
+μ-loop m tolerances out₀ l₀ out l = 16 - l
 
 loop-holds : tie.Need-loop-holds Inv-loop μ-loop
 loop-holds c = (omega arith, refl)

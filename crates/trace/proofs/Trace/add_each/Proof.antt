@@ -86,7 +86,7 @@ returns : tie.Need-returns Inv-loop μ-loop
 returns c =
     let d = c .before .before .before .before .before .before .before .before .before in
     let l = d .before .before .before .before .before .before .before in
-    (rw (d .before .before .before .before .before .holding .ensures) (underway-stops (l .before .loop .inv) (left l) (next d) (c .before .o .given .1)), refl)
+    (underway-stops (l .before .loop .inv) (left l) (next d) (d .before .before .before .before .before .holding .ensures) (c .before .o .given .1), refl)
 
 enum-told : tie.Need-enum-told Inv-loop μ-loop
 enum-told c = search needs
