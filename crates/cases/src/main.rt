@@ -3,6 +3,7 @@ ghost use Prim.Native.Nat.{_≤_};
 ghost use lib.ListN.{length};
 use libc::STDOUT_FILENO;
 use refusal::Outcome;
+use sample::Sample;
 use trace::Asked;
 use trace::Trace;
 
@@ -83,7 +84,12 @@ fn add_all(
         let x = samples[2 * i];
         let y = samples[2 * i + 1];
         let mark = mark_of(i, restart);
-        let added = trace.put(xs, ys, marks, table, i, x, y, mark);
+        let sample = Sample {
+            across: x,
+            up: y,
+            mark,
+        };
+        let added = trace.put(xs, ys, marks, table, i, sample);
         trace = added.trace;
         i += 1;
     }
@@ -249,7 +255,12 @@ fn adding(x: i16, y: i16) {
     let mut table = [0u16; 4];
     let started = Trace::start(1, 2, tolerances(1, 0));
     let empty = started.trace;
-    let added = empty.put(&mut xs, &mut ys, &mut marks, &mut table, 0, x, y, 0);
+    let sample = Sample {
+        across: x,
+        up: y,
+        mark: 0,
+    };
+    let added = empty.put(&mut xs, &mut ys, &mut marks, &mut table, 0, sample);
     let o = added.outcome;
     say(b"sample ");
     say_sample(x, y);

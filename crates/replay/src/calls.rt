@@ -1,5 +1,6 @@
 // The operations that make a call: each takes the numbers of its command, makes the call and says the answer. A new one is a function here, with a
 // line in is_good, and one in carry_out (with takes_buffers) or, where it takes no buffer, in alone.
+use sample::Sample;
 use script::command;
 use script::command::Command;
 use script::lists::Lists;
@@ -112,7 +113,12 @@ fn put(
     let x = command.coordinate(1);
     let y = command.coordinate(2);
     let mark = command.mark(3);
-    let changed = trace.put(xs, ys, marks, cells, v, x, y, mark);
+    let sample = Sample {
+        across: x,
+        up: y,
+        mark,
+    };
+    let changed = trace.put(xs, ys, marks, cells, v, sample);
     answers::changed(changed);
     changed.trace
 }

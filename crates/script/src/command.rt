@@ -25,7 +25,7 @@ pub fn is_short(bits: u32) -> bool {
 
 pub fn short(bits: u32) -> i16 {
     let low = bits % 65536;
-    record::from_bits(low as u16)
+    words::from_bits(low as u16)
 }
 
 // Whether they are those of a byte, and the byte.

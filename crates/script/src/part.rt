@@ -117,7 +117,7 @@ pub fn rising_shorts(n: usize, start: u16, step: u32) -> Shorts {
     let mut v = start;
     let mut p = 0;
     while p < ROOM {
-        values[p] = record::from_bits(v);
+        values[p] = words::from_bits(v);
         v = next(v, step);
         p += 1;
     }
