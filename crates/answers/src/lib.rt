@@ -89,7 +89,9 @@ pub fn levels(answer: Levels) {
 pub fn decoded(answer: Decoded) {
     let o = answer.outcome;
     say::outcome(o);
+    say::bytes(b" ");
     say::signed(answer.across);
+    say::bytes(b" ");
     say::signed(answer.up);
     say::number(answer.pause as u64);
     say::number(answer.rank as u64);
