@@ -1,4 +1,5 @@
 // The lists of an upload.
+ghost use Prim.Native.Nat.{_≤_};
 use crate::command::Command;
 use crate::part;
 use crate::part::Bytes;
@@ -9,6 +10,26 @@ pub struct Lists {
     pub across: Shorts,
     pub up: Shorts,
     pub restarts: Bytes,
+}
+
+// How many values each list has, within the room.
+pub struct Counts {
+    pub across: usize,
+    pub up: usize,
+    pub restarts: usize,
+}
+
+pub fn each_length(lists: Lists) -> Counts
+    ensures { λ r. ⌜ (r .across ≤ 320) × (r .up ≤ 320) × (r .restarts ≤ 320) ⌝ }
+{
+    let across = lists.across;
+    let up = lists.up;
+    let restarts = lists.restarts;
+    Counts {
+        across: part::within(across.n, part::ROOM),
+        up: part::within(up.n, part::ROOM),
+        restarts: part::within(restarts.n, part::ROOM),
+    }
 }
 
 // Lists without values.
