@@ -7,7 +7,8 @@ use trace::Levels;
 use trace::Stop;
 use trace::Trace;
 
-// What the calls of a case gave: why the upload stopped, whether the stretch from 0 to 2 is permitted at level 1, the levels, and what is lent.
+// What the calls of a case gave: why the upload stopped, whether the stretch from 0 to 2 is permitted at level 1, the levels,
+// and the ranks and the table then.
 struct Found {
     stop: Stop,
     asked: Asked,
@@ -117,14 +118,7 @@ fn past(ax: i16, ay: i16, bx: i16, by: i16, x: i16, y: i16, e: u32) {
 }
 
 // The levels of n samples: their ranks and the total of segments.
-fn levels(
-    m: usize,
-    tolerances: [u32; 16],
-    across: [i16; 5],
-    up: [i16; 5],
-    marks: [u8; 5],
-    n: usize,
-)
+fn levels(m: usize, tolerances: [u32; 16], across: [i16; 5], up: [i16; 5], marks: [u8; 5], n: usize)
     requires { ⌜ n ≤ 5 ⌝ }
 {
     let found = find(m, tolerances, across, up, marks, n);
@@ -189,7 +183,70 @@ fn adding(x: i16, y: i16) {
 // Counters 500, 900, 120, 200.
 fn pauses() {
     let file = [
-        0, 0, 0, 0, 244, 1, 0, 0, 0, 0, 0, 0, 0, 0, 0, 0, 0, 0, 0, 0, 132, 3, 0, 0, 0, 0, 0, 0, 0, 0, 0, 0, 0, 0, 0, 0, 120, 0, 0, 0, 0, 0, 0, 0, 0, 0, 0, 0, 0, 0, 0, 0, 200, 0, 0, 0, 0, 0, 0, 0, 0, 0, 0, 0,
+        0,
+        0,
+        0,
+        0,
+        244,
+        1,
+        0,
+        0,
+        0,
+        0,
+        0,
+        0,
+        0,
+        0,
+        0,
+        0,
+        0,
+        0,
+        0,
+        0,
+        132,
+        3,
+        0,
+        0,
+        0,
+        0,
+        0,
+        0,
+        0,
+        0,
+        0,
+        0,
+        0,
+        0,
+        0,
+        0,
+        120,
+        0,
+        0,
+        0,
+        0,
+        0,
+        0,
+        0,
+        0,
+        0,
+        0,
+        0,
+        0,
+        0,
+        0,
+        0,
+        200,
+        0,
+        0,
+        0,
+        0,
+        0,
+        0,
+        0,
+        0,
+        0,
+        0,
+        0,
     ];
     let line = record::pause_line(&file);
     say::bytes(b"counters 500, 900, 120, 200: pause");
@@ -227,7 +284,14 @@ fn families() {
     say::bytes(b"four samples, one level");
     levels(1, tolerances(1, 0), ACROSS, [0, 2, 2, 0, 0], [0; 5], 4);
     say::bytes(b"four samples, two levels");
-    levels(2, tolerances(1, 10), [0, 10, 20, 20, 0], [0, 1, 0, 20, 0], [0; 5], 4);
+    levels(
+        2,
+        tolerances(1, 10),
+        [0, 10, 20, 20, 0],
+        [0, 1, 0, 20, 0],
+        [0; 5],
+        4,
+    );
     say::bytes(b"five samples, three levels");
     levels(3, day_tolerances(), ACROSS, UP, [0; 5], 5);
     say::bytes(b"a restart before the third, three levels");

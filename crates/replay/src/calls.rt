@@ -1,5 +1,5 @@
-// The operations that make a call: each takes the numbers of its command, makes the call and says the answer. A new one is a function here, with a
-// line in is_good, and one in state::give (with takes_buffers) or, where it takes no buffer, in alone.
+// The operations that make a call: each takes the words of its command, makes the call and says the answer. A new one is a
+// function here, with a line in is_good, and one in state::give or, where it takes no buffer, in alone.
 ghost use Prim.Native.Nat.{_≤_};
 ghost use lib.ListN.{length};
 use script::command;
@@ -27,14 +27,6 @@ pub(crate) fn is_good(command: Command) -> bool {
         3 => command.are_whole(18),
         6 => command.are_whole(3),
         9 => command.are_whole(1) && command.is_sample(2),
-        _ => false,
-    }
-}
-
-// Whether an operation is a call over what is lent.
-pub(crate) fn takes_buffers(operation: u32) -> bool {
-    match operation {
-        6 | 7 | 9 | 12 => true,
         _ => false,
     }
 }

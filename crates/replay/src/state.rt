@@ -41,7 +41,7 @@ fn kept(after: After, n: Lengths, r: [u8; part::ROOM], lists: Lists) -> State {
     State { trace, lent, lists }
 }
 
-// A call over what is lent.
+// A call over what is lent, where the operation is one.
 fn give(command: Command, state: State, cells: &mut [u16]) -> State {
     let trace = state.trace;
     let lent = state.lent;
@@ -68,21 +68,21 @@ fn give(command: Command, state: State, cells: &mut [u16]) -> State {
     if operation == 9 {
         return kept(calls::put(command, trace, n, x, y, m, cells), n, r, lists);
     }
-    kept(calls::upload(n, x, y, m, trace, lists, cells), n, r, lists)
+    if operation == 12 {
+        return kept(calls::upload(n, x, y, m, trace, lists, cells), n, r, lists);
+    }
+    state
 }
 
-// The state after a command: after a call over what is lent, or, of any other, each part by the operations that are its own.
+// The state after a command: each part changed by the operations that are its own, and then by a call over what is lent.
 fn obey(command: Command, state: State, cells: &mut [u16]) -> State {
-    if calls::takes_buffers(command.word(0)) {
-        return give(command, state, cells);
-    }
     let trace = state.trace;
     let lent = state.lent;
     let lists = state.lists;
     let trace = calls::alone(command, trace);
     let lent = lent::after(command, lent, cells);
     let lists = lists::after(command, lists);
-    State { trace, lent, lists }
+    give(command, State { trace, lent, lists }, cells)
 }
 
 // Carry a command out, and end its line.

@@ -50,8 +50,8 @@ fn may_take(place: bool, value: bool) -> bool {
     false
 }
 
-// With a value at place p below `most`, or after the last in use; as it was, with the line of a command that is none, where p is not below or the
-// value is none of its type.
+// With a value at place p, one more in use where p is the next; as it was, with the line of a command that is none, where p is
+// not below `most` or the value is none of its type.
 pub fn set_short(s: Shorts, p: usize, most: usize, word: u32) -> Shorts {
     if !may_take(p < most, command::is_short(word)) {
         return s;
