@@ -1,5 +1,6 @@
 // The operations that make a call: each takes the words of its command, makes the call and says the answer. A new one is a
 // function here, with a line in is_good, and one in state::give or, where it takes no buffer, in alone.
+ghost use mathlib.Core.Path.{_≡_};
 ghost use Prim.Native.Nat.{_≤_};
 ghost use lib.ListN.{length};
 use script::command;
@@ -157,12 +158,37 @@ pub(crate) fn put(
     After { trace, x, y, m }
 }
 
+// The values of each list.
+fn across_of(lists: Lists) -> [i16; part::ROOM]
+    ensures { λ r. ⌜ 320 ≡ length r ⌝ }
+{
+    let list = lists.across;
+    let values = list.values;
+    part::all_shorts(values)
+}
+
+fn up_of(lists: Lists) -> [i16; part::ROOM]
+    ensures { λ r. ⌜ 320 ≡ length r ⌝ }
+{
+    let list = lists.up;
+    let values = list.values;
+    part::all_shorts(values)
+}
+
+fn restarts_of(lists: Lists) -> [u8; part::ROOM]
+    ensures { λ r. ⌜ 320 ≡ length r ⌝ }
+{
+    let list = lists.restarts;
+    let values = list.values;
+    part::all_bytes(values)
+}
+
 // upload
 pub(crate) fn upload(
     n: Lengths,
-    x: [i16; part::ROOM],
-    y: [i16; part::ROOM],
-    m: [u8; part::ROOM],
+    mut x: [i16; part::ROOM],
+    mut y: [i16; part::ROOM],
+    mut m: [u8; part::ROOM],
     trace: Trace,
     lists: Lists,
     cells: &mut [u16],
@@ -177,18 +203,9 @@ pub(crate) fn upload(
     let na = k.across;
     let nu = k.up;
     let nr = k.restarts;
-    let across = lists.across;
-    let up = lists.up;
-    let restarts = lists.restarts;
-    let a = across.values;
-    let u = up.values;
-    let r = restarts.values;
-    let a = part::all_shorts(a);
-    let u = part::all_shorts(u);
-    let r = part::all_bytes(r);
-    let mut x = x;
-    let mut y = y;
-    let mut m = m;
+    let a = across_of(lists);
+    let u = up_of(lists);
+    let r = restarts_of(lists);
     let uploaded = trace.upload(
         &mut x[..nx],
         &mut y[..ny],

@@ -9,14 +9,14 @@ use Rattle.replay.proofs.calls.upload.Tie as tie
 each-length-requires : tie.Need-each-length-requires
 each-length-requires c κs = search needs
 
-all-shorts-requires : tie.Need-all-shorts-requires
-all-shorts-requires c κs = search needs
+across-of-requires : tie.Need-across-of-requires
+across-of-requires c κs = search needs
 
-all-shorts-requires-2 : tie.Need-all-shorts-requires-2
-all-shorts-requires-2 c κs = search needs
+up-of-requires : tie.Need-up-of-requires
+up-of-requires c κs = search needs
 
-all-bytes-requires : tie.Need-all-bytes-requires
-all-bytes-requires c κs = search needs
+restarts-of-requires : tie.Need-restarts-of-requires
+restarts-of-requires c κs = search needs
 
 array-borrow-prefix-x : tie.Need-array-borrow-prefix-x
 array-borrow-prefix-x c = search needs
@@ -77,9 +77,9 @@ upload-spec =
     tie.close
     (tie.spec
     each-length-requires
-    all-shorts-requires
-    all-shorts-requires-2
-    all-bytes-requires
+    across-of-requires
+    up-of-requires
+    restarts-of-requires
     array-borrow-prefix-x
     slice-aggregate-upload
     array-borrow-prefix-y
