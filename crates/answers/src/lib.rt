@@ -1,4 +1,5 @@
-// answers: the line of each call's answer, for the test programs. A line that a digest ends is said up to it; the program says the digest and the end.
+// answers: the line of each call's answer, for the test programs. A line that a digest ends is said up to it; the program says
+// the digest and the end.
 use record::Decoded;
 use refusal::Outcome;
 use script::say;
@@ -89,7 +90,9 @@ pub fn levels(answer: Levels) {
 pub fn decoded(answer: Decoded) {
     let o = answer.outcome;
     say::outcome(o);
+    say::bytes(b" ");
     say::signed(answer.across);
+    say::bytes(b" ");
     say::signed(answer.up);
     say::number(answer.pause as u64);
     say::number(answer.rank as u64);

@@ -1,164 +1,30 @@
 // cases: the requirements' hand-checked cases, run through the public calls and printed one to a line.
 ghost use Prim.Native.Nat.{_≤_};
-ghost use lib.ListN.{length};
-use libc::STDOUT_FILENO;
 use refusal::Outcome;
+use sample::Sample;
+use script::say;
 use trace::Asked;
+use trace::Levels;
 use trace::Trace;
 
-fn say(text: &[u8]) {
-    io::write_all(STDOUT_FILENO, text);
+// What the calls of a case gave: whether the stretch from 0 to 2 is permitted at level 1, the levels,
+// and the ranks and the table then.
+struct Found {
+    asked: Asked,
+    levels: Levels,
+    ranks: [u8; 5],
+    table: [u16; 400],
 }
 
-fn say_number(n: u64) {
-    io::print_decimal(STDOUT_FILENO, n);
-}
-
-fn say_signed(z: i16) {
-    if z < 0 {
-        say(b"-");
-    }
-    say_number(text::magnitude(z));
-}
-
-fn say_sample(x: i16, y: i16) {
-    say(b"(");
-    say_signed(x);
-    say(b", ");
-    say_signed(y);
-    say(b")");
-}
-
-// taken, or refused with the number.
-fn say_outcome(o: Outcome) {
-    match o {
-        Outcome::Done => say(b": taken\n"),
-        Outcome::Refused(_) => {
-            say(b": refused ");
-            say_number(refusal::number(o) as u64);
-            say(b"\n");
-        }
-    }
-}
-
-// One tolerance, or two.
-fn tolerances(first: u32, second: u32) -> [u32; 16] {
-    [first, second, 0, 0, 0, 0, 0, 0, 0, 0, 0, 0, 0, 0, 0, 0]
-}
-
-// 1, 2, .., 16.
-fn rising() -> [u32; 16] {
-    [1, 2, 3, 4, 5, 6, 7, 8, 9, 10, 11, 12, 13, 14, 15, 16]
-}
-
-// A restart before no sample.
-const NONE: usize = 0;
-
-fn mark_of(i: usize, restart: usize) -> u8 {
-    if i == 0 {
-        return 0;
-    }
-    if i == restart {
-        return Trace::MARKED;
-    }
-    0
-}
-
-// Add the first n samples of a list of coordinates, across and up in turn; one of them, and the first never, comes after a restart.
-fn add_all(
-    empty: Trace,
-    xs: &mut [i16],
-    ys: &mut [i16],
-    marks: &mut [u8],
-    table: &mut [u16],
-    samples: [i16; 10],
-    n: usize,
-    restart: usize,
-) -> Trace
-    requires { ⌜ n ≤ 5 ⌝ }
-{
-    let mut trace = empty;
-    let mut i = 0;
-    while i < n {
-        let x = samples[2 * i];
-        let y = samples[2 * i + 1];
-        let mark = mark_of(i, restart);
-        let added = trace.put(xs, ys, marks, table, i, x, y, mark);
-        trace = added.trace;
-        i += 1;
-    }
-    trace
-}
-
-// A stretch of two samples past a third, at a tolerance: permitted, or not.
-fn past(ax: i16, ay: i16, bx: i16, by: i16, x: i16, y: i16, e: u32) {
-    let mut xs = [0i16; 3];
-    let mut ys = [0i16; 3];
-    let mut marks = [0u8; 3];
-    let mut table = [0u16; 9];
-    let started = Trace::start(1, 3, tolerances(e, 0));
-    let empty = started.trace;
-    let samples = [ax, ay, x, y, bx, by, 0, 0, 0, 0];
-    let trace = add_all(
-        empty,
-        &mut xs,
-        &mut ys,
-        &mut marks,
-        &mut table,
-        samples,
-        3,
-        NONE,
-    );
-    let answer = trace.ask(&xs, &ys, &marks, 1, 0, 2);
-    say_sample(ax, ay);
-    say(b" to ");
-    say_sample(bx, by);
-    say(b" past ");
-    say_sample(x, y);
-    say(b" at ");
-    say_number(e as u64);
-    match answer {
-        Asked::Yes => say(b": yes\n"),
-        Asked::No(spoiler) => {
-            say(b": no, sample ");
-            say_number(spoiler as u64);
-            say(b"\n");
-        }
-        Asked::Refused(why) => say_outcome(Outcome::Refused(why)),
-    }
-}
-
-// A cost and a rank as numbers to print.
-fn cost_wide(cost: u16) -> u64 {
-    cost as u64
-}
-
-fn rank_wide(rank: u8) -> u64 {
-    rank as u64
-}
-
-// The first n ranks.
-fn say_ranks(ranks: &[u8], n: usize)
-    requires { ⌜ n ≤ length (now ranks) ⌝ }
-{
-    say(b": ranks");
-    let mut i = 0;
-    while i < n {
-        say(b" ");
-        say_number(rank_wide(ranks[i]));
-        i += 1;
-    }
-}
-
-// The levels of n samples: their ranks and the total of segments.
-fn levels(
-    title: &[u8],
-    samples: [i16; 10],
-    n: usize,
-    restart: usize,
+// Upload n samples to an empty trace of m levels, ask and read.
+fn find(
     m: usize,
     tolerances: [u32; 16],
-)
+    across: [i16; 5],
+    up: [i16; 5],
+    restarts: [u8; 5],
+    n: usize,
+) -> Found
     requires { ⌜ n ≤ 5 ⌝ }
 {
     let mut xs = [0i16; 5];
@@ -168,76 +34,135 @@ fn levels(
     let mut ranks = [0u8; 5];
     let started = Trace::start(m, 5, tolerances);
     let empty = started.trace;
-    let trace = add_all(
-        empty,
+    let uploaded = empty.upload(
         &mut xs,
         &mut ys,
         &mut marks,
         &mut table,
-        samples,
-        n,
-        restart,
+        &across[..n],
+        &up[..n],
+        &restarts[..n],
     );
-    let read = trace.read(&xs, &ys, &marks, &table, &mut ranks);
-    say(title);
-    let o = read.outcome;
+    let trace = uploaded.trace;
+    let asked = trace.ask(&xs, &ys, &marks, 1, 0, 2);
+    let levels = trace.read(&xs, &ys, &marks, &table, &mut ranks);
+    Found {
+        asked,
+        levels,
+        ranks,
+        table,
+    }
+}
+
+// taken, or refused with the number.
+fn say_outcome(o: Outcome) {
+    let number = refusal::number(o);
+    if number == 0 {
+        return say::bytes(b": taken\n");
+    }
+    say::bytes(b": refused");
+    say::number(number as u64);
+    say::end();
+}
+
+fn say_sample(before: &[u8], x: i16, y: i16) {
+    say::bytes(before);
+    say::bytes(b"(");
+    say::signed(x);
+    say::bytes(b", ");
+    say::signed(y);
+    say::bytes(b")");
+}
+
+fn say_asked(answer: Asked) {
+    match answer {
+        Asked::Yes => say::bytes(b": yes\n"),
+        Asked::No(spoiler) => {
+            say::bytes(b": no, sample");
+            say::number(spoiler as u64);
+            say::end();
+        }
+        Asked::Refused(why) => say_outcome(Outcome::Refused(why)),
+    }
+}
+
+// The first n ranks.
+fn say_ranks(ranks: [u8; 5], n: usize) {
+    let mut i = 0;
+    while i < 5 && i < n {
+        say::number(ranks[i] as u64);
+        i += 1;
+    }
+}
+
+// One tolerance, or two.
+fn tolerances(first: u32, second: u32) -> [u32; 16] {
+    [first, second, 0, 0, 0, 0, 0, 0, 0, 0, 0, 0, 0, 0, 0, 0]
+}
+
+// A stretch of two samples past a third, at a tolerance: permitted, or not.
+fn past(ax: i16, ay: i16, bx: i16, by: i16, x: i16, y: i16, e: u32) {
+    let across = [ax, x, bx, 0, 0];
+    let up = [ay, y, by, 0, 0];
+    let found = find(1, tolerances(e, 0), across, up, [0; 5], 3);
+    let asked = found.asked;
+    say_sample(b"", ax, ay);
+    say_sample(b" to ", bx, by);
+    say_sample(b" past ", x, y);
+    say::bytes(b" at");
+    say::number(e as u64);
+    say_asked(asked);
+}
+
+// The levels of n samples: their ranks and the total of segments.
+fn levels(m: usize, tolerances: [u32; 16], across: [i16; 5], up: [i16; 5], marks: [u8; 5], n: usize)
+    requires { ⌜ n ≤ 5 ⌝ }
+{
+    let found = find(m, tolerances, across, up, marks, n);
+    let levels = found.levels;
+    let ranks = found.ranks;
+    let o = levels.outcome;
     let Outcome::Done = o else {
         say_outcome(o);
         return;
     };
-    say_ranks(&ranks, n);
-    say(b", total ");
-    say_number(read.total as u64);
-    say(b"\n");
+    say::bytes(b": ranks");
+    say_ranks(ranks, n);
+    say::bytes(b", total");
+    say::number(levels.total as u64);
+    say::end();
 }
 
-// The cost of the stretch of all five samples of the requirements' day at a level.
-fn say_cost(table: &[u16], k: usize)
-    requires { ⌜ (1 ≤ k) × (k ≤ 3) × (75 ≤ length (now table)) ⌝ }
-{
-    say(b"five samples, cost (");
-    say_number(k as u64);
-    say(b", 0, 4): ");
-    say_number(cost_wide(table[25 * (k - 1) + 4]));
-    say(b"\n");
-}
+// The requirements' day of five samples, and its tolerances.
+const ACROSS: [i16; 5] = [0, 10, 20, 30, 40];
 
-// The requirements' day: across 0 to 40.
-fn five() -> [i16; 10] {
-    [0, 0, 10, 1, 20, 0, 30, 3, 40, 0]
-}
+const UP: [i16; 5] = [0, 1, 0, 3, 0];
 
 fn day_tolerances() -> [u32; 16] {
     [1, 4, 16, 0, 0, 0, 0, 0, 0, 0, 0, 0, 0, 0, 0, 0]
 }
 
+// The cost of the stretch of all five samples at a level.
+fn say_cost(level: i16, cost: u16) {
+    say::bytes(b"five samples, cost (");
+    say::signed(level);
+    say::bytes(b", 0, 4):");
+    say::number(cost as u64);
+    say::end();
+}
+
 fn costs() {
-    let mut xs = [0i16; 5];
-    let mut ys = [0i16; 5];
-    let mut marks = [0u8; 5];
-    let mut table = [0u16; 75];
-    let started = Trace::start(3, 5, day_tolerances());
-    let empty = started.trace;
-    add_all(
-        empty,
-        &mut xs,
-        &mut ys,
-        &mut marks,
-        &mut table,
-        five(),
-        5,
-        NONE,
-    );
-    say_cost(&table, 2);
-    say_cost(&table, 3);
-    say_cost(&table, 1);
+    let found = find(3, day_tolerances(), ACROSS, UP, [0; 5], 5);
+    let table = found.table;
+    say_cost(2, table[29]);
+    say_cost(3, table[54]);
+    say_cost(1, table[4]);
 }
 
 // A start of m levels, N places and two tolerances.
-fn starting(title: &[u8], m: usize, capacity: usize, first: u32, second: u32) {
+fn starting(m: usize, capacity: usize, first: u32, second: u32) {
     let started = Trace::start(m, capacity, tolerances(first, second));
     let o = started.outcome;
-    say(title);
     say_outcome(o);
 }
 
@@ -249,39 +174,40 @@ fn adding(x: i16, y: i16) {
     let mut table = [0u16; 4];
     let started = Trace::start(1, 2, tolerances(1, 0));
     let empty = started.trace;
-    let added = empty.put(&mut xs, &mut ys, &mut marks, &mut table, 0, x, y, 0);
+    let sample = Sample {
+        across: x,
+        up: y,
+        mark: 0,
+    };
+    let added = empty.put(&mut xs, &mut ys, &mut marks, &mut table, 0, sample);
     let o = added.outcome;
-    say(b"sample ");
-    say_sample(x, y);
+    say_sample(b"sample ", x, y);
     say_outcome(o);
 }
 
 // Counters 500, 900, 120, 200.
 fn pauses() {
-    let mut file = [0u8; 64];
-    file[4] = 244;
-    file[5] = 1;
-    file[20] = 132;
-    file[21] = 3;
-    file[36] = 120;
-    file[52] = 200;
-    let line = record::pause_line(&file);
-    say(b"counters 500, 900, 120, 200: pause ");
-    say_number(line.sum);
-    say(b"\n");
+    let file = b"\0\0\0\0\xF4\x01\0\0\0\0\0\0\0\0\0\0\
+        \0\0\0\0\x84\x03\0\0\0\0\0\0\0\0\0\0\
+        \0\0\0\0\x78\0\0\0\0\0\0\0\0\0\0\0\
+        \0\0\0\0\xC8\0\0\0\0\0\0\0\0\0\0\0";
+    let line = pause::pause_line(file);
+    say::bytes(b"counters 500, 900, 120, 200: pause");
+    say::number(line.sum);
+    say::end();
 }
 
 // A record of across 10, up 1, pause 900.
 fn decoding() {
     let bytes = [10, 0, 1, 0, 132, 3, 0, 0, 0, 0, 0, 0, 0, 0, 0, 0];
     let d = record::decode(&bytes);
-    say(b"record 0A 00 01 00 84 03 00 00: across ");
-    say_signed(d.across);
-    say(b", up ");
-    say_signed(d.up);
-    say(b", pause ");
-    say_number(d.pause as u64);
-    say(b"\n");
+    say::bytes(b"record 0A 00 01 00 84 03 00 00: across ");
+    say::signed(d.across);
+    say::bytes(b", up ");
+    say::signed(d.up);
+    say::bytes(b", pause");
+    say::number(d.pause as u64);
+    say::end();
 }
 
 fn stretches() {
@@ -298,60 +224,55 @@ fn stretches() {
 }
 
 fn families() {
-    let turn = [0, 0, 10, 2, 20, 2, 30, 0, 0, 0];
-    let corner = [0, 0, 10, 1, 20, 0, 20, 20, 0, 0];
+    say::bytes(b"four samples, one level");
+    levels(1, tolerances(1, 0), ACROSS, [0, 2, 2, 0, 0], [0; 5], 4);
+    say::bytes(b"four samples, two levels");
     levels(
-        b"four samples, one level",
-        turn,
-        4,
-        NONE,
-        1,
-        tolerances(1, 0),
-    );
-    levels(
-        b"four samples, two levels",
-        corner,
-        4,
-        NONE,
         2,
         tolerances(1, 10),
+        [0, 10, 20, 20, 0],
+        [0, 1, 0, 20, 0],
+        [0; 5],
+        4,
     );
-    levels(
-        b"five samples, three levels",
-        five(),
-        5,
-        NONE,
-        3,
-        day_tolerances(),
-    );
-    levels(
-        b"a restart before the third, three levels",
-        five(),
-        5,
-        2,
-        3,
-        day_tolerances(),
-    );
-    levels(b"two samples, one level", five(), 2, NONE, 1, rising());
-    levels(b"two samples, three levels", five(), 2, NONE, 3, rising());
-    levels(
-        b"two samples, sixteen levels",
-        five(),
-        2,
-        NONE,
-        16,
-        rising(),
-    );
-    levels(b"one sample, one level", five(), 1, NONE, 1, rising());
+    say::bytes(b"five samples, three levels");
+    levels(3, day_tolerances(), ACROSS, UP, [0; 5], 5);
+    say::bytes(b"a restart before the third, three levels");
+    levels(3, day_tolerances(), ACROSS, UP, [0, 0, 1, 0, 0], 5);
+}
+
+// The first n samples of the day at m levels, with tolerances 1, 2, .., 16.
+fn few(m: usize, n: usize)
+    requires { ⌜ n ≤ 5 ⌝ }
+{
+    let rising = [1, 2, 3, 4, 5, 6, 7, 8, 9, 10, 11, 12, 13, 14, 15, 16];
+    levels(m, rising, ACROSS, UP, [0; 5], n);
+}
+
+fn short_families() {
+    say::bytes(b"two samples, one level");
+    few(1, 2);
+    say::bytes(b"two samples, three levels");
+    few(3, 2);
+    say::bytes(b"two samples, sixteen levels");
+    few(16, 2);
+    say::bytes(b"one sample, one level");
+    few(1, 1);
 }
 
 fn ranges() {
-    starting(b"tolerances 4, 4", 2, 2, 4, 4);
-    starting(b"tolerance 0", 1, 2, 0, 0);
-    starting(b"tolerance 32768", 1, 2, 32768, 0);
-    starting(b"tolerance 32769", 1, 2, 32769, 0);
-    starting(b"capacity 256", 1, 256, 1, 0);
-    starting(b"capacity 257", 1, 257, 1, 0);
+    say::bytes(b"tolerances 4, 4");
+    starting(2, 2, 4, 4);
+    say::bytes(b"tolerance 0");
+    starting(1, 2, 0, 0);
+    say::bytes(b"tolerance 32768");
+    starting(1, 2, 32768, 0);
+    say::bytes(b"tolerance 32769");
+    starting(1, 2, 32769, 0);
+    say::bytes(b"capacity 256");
+    starting(1, 256, 1, 0);
+    say::bytes(b"capacity 257");
+    starting(1, 257, 1, 0);
     adding(16384, 0);
     adding(16385, 0);
 }
@@ -359,6 +280,7 @@ fn ranges() {
 fn main() {
     stretches();
     families();
+    short_families();
     costs();
     pauses();
     ranges();

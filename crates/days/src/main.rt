@@ -7,17 +7,6 @@ use libc::STDOUT_FILENO;
 // The bytes of a day at the most.
 const DAY_MOST: usize = 65552;
 
-fn wide(b: u8) -> usize
-    ensures { λ r. ⌜ r ≤ 255 ⌝ }
-{
-    b as usize
-}
-
-// The length of the next day.
-fn length_of(bytes: [u8; 4]) -> usize {
-    wide(bytes[0]) + 256 * wide(bytes[1]) + 65536 * (wide(bytes[2]) + 256 * wide(bytes[3]))
-}
-
 // Print the number of a day and its text.
 fn print_day(number: u64, file: &[u8]) {
     let mut head = [0u8; 32];
@@ -56,7 +45,7 @@ fn turn(number: u64) -> bool {
     if got < 4 {
         return broken();
     }
-    let n = length_of(bytes);
+    let n = words::long_at(&bytes, 0) as usize;
     let mut day = [0u8; DAY_MOST];
     let k = read_day(&mut day, n);
     if k != n {

@@ -1,53 +1,48 @@
-// The operations that make a call: each takes the numbers of its command, makes the call and says the answer. A new one is a function here, with a
-// line in is_good, and one in carry_out (with takes_buffers) or, where it takes no buffer, in alone.
+// The operations that make a call: each takes the words of its command, makes the call and says the answer. A new one is a
+// function here, with a line in is_good, and one in state::give or, where it takes no buffer, in alone.
+ghost use mathlib.Core.Path.{_≡_};
+ghost use Prim.Native.Nat.{_≤_};
+ghost use lib.ListN.{length};
 use script::command;
 use script::command::Command;
+use script::lent::Lengths;
+use script::lists;
 use script::lists::Lists;
 use script::part;
 use trace::Trace;
 
-// What a call gets beside the buffers that are lent to it.
-pub(crate) struct Call {
-    pub command: Command,
+// What put and upload leave: the trace and the buffers.
+pub(crate) struct After {
     pub trace: Trace,
-    pub lists: Lists,
+    pub x: [i16; part::ROOM],
+    pub y: [i16; part::ROOM],
+    pub m: [u8; part::ROOM],
 }
 
 // Whether a command is one: an operation, and numbers that its call can take.
 pub(crate) fn is_good(command: Command) -> bool {
-    if !command.is_plain() {
-        return false;
-    }
-    match command.operation() {
+    match command.word(0) {
         0 | 7 | 8 | 10 | 11 | 12 => true,
-        1 => command.are_whole(command::NUMBERS),
+        1 => command.are_whole(19),
         2 => command.are_whole(2),
         3 => command.are_whole(18),
         6 => command.are_whole(3),
-        9 => command.are_whole(1) && command.is_sample(1),
-        _ => false,
-    }
-}
-
-// Whether an operation is a call over what is lent.
-pub(crate) fn takes_buffers(operation: u8) -> bool {
-    match operation {
-        6 | 7 | 9 | 12 => true,
+        9 => command.are_whole(1) && command.is_sample(2),
         _ => false,
     }
 }
 
 // Whether a digest ends the line of an operation's answer.
-pub(crate) fn has_digest(operation: u8) -> bool {
+pub(crate) fn has_digest(operation: u32) -> bool {
     operation == 7 || operation == 9 || operation == 12
 }
 
 // setup m N n t1..t16: forge the trace.
 fn setup(command: Command) -> Trace {
-    let levels = command.count(0);
-    let capacity = command.count(1);
-    let held = command.count(2);
-    let tolerances = command.tolerances(3);
+    let levels = command.count(1);
+    let capacity = command.count(2);
+    let held = command.count(3);
+    let tolerances = command.tolerances(4);
     Trace {
         levels,
         capacity,
@@ -58,9 +53,9 @@ fn setup(command: Command) -> Trace {
 
 // start m N t1..t16
 fn start(command: Command) -> Trace {
-    let levels = command.count(0);
-    let capacity = command.count(1);
-    let started = Trace::start(levels, capacity, command.tolerances(2));
+    let levels = command.count(1);
+    let capacity = command.count(2);
+    let started = Trace::start(levels, capacity, command.tolerances(3));
     answers::started(started);
     started.trace
 }
@@ -72,7 +67,7 @@ fn decode(bytes: [u8; command::LENGTH]) {
 
 // A call that takes no buffer, by its operation; the trace after it.
 pub(crate) fn alone(command: Command, trace: Trace) -> Trace {
-    let operation = command.operation();
+    let operation = command.word(0);
     if operation == 1 {
         return setup(command);
     }
@@ -87,85 +82,140 @@ pub(crate) fn alone(command: Command, trace: Trace) -> Trace {
 }
 
 // ask i j k
-fn ask(command: Command, trace: Trace, xs: &[i16], ys: &[i16], marks: &[u8]) {
-    let i = command.count(0);
-    let j = command.count(1);
-    let k = command.count(2);
-    answers::asked(trace.ask(xs, ys, marks, k, i, j));
+pub(crate) fn ask(
+    command: Command,
+    trace: Trace,
+    n: Lengths,
+    x: [i16; part::ROOM],
+    y: [i16; part::ROOM],
+    m: [u8; part::ROOM],
+)
+    requires { ⌜ (n .xs ≤ 320) × (n .ys ≤ 320) × (n .marks ≤ 320) ⌝ }
+{
+    let nx = n.xs;
+    let ny = n.ys;
+    let nm = n.marks;
+    let i = command.count(1);
+    let j = command.count(2);
+    let k = command.count(3);
+    answers::asked(trace.ask(&x[..nx], &y[..ny], &m[..nm], k, i, j));
 }
 
-// read
-fn read(trace: Trace, xs: &[i16], ys: &[i16], marks: &[u8], cells: &[u16], ranks: &mut [u8]) {
-    answers::levels(trace.read(xs, ys, marks, cells, ranks));
+// read; the ranks after it.
+pub(crate) fn read(
+    trace: Trace,
+    n: Lengths,
+    x: [i16; part::ROOM],
+    y: [i16; part::ROOM],
+    m: [u8; part::ROOM],
+    r: [u8; part::ROOM],
+    cells: &[u16],
+) -> [u8; part::ROOM]
+    requires { ⌜ (n .xs ≤ 320) × (n .ys ≤ 320) × (n .marks ≤ 320) × (n .ranks ≤ 320) × (n .cells ≤ length (now cells)) ⌝ }
+{
+    let nx = n.xs;
+    let ny = n.ys;
+    let nm = n.marks;
+    let nr = n.ranks;
+    let nt = n.cells;
+    let mut r = r;
+    let levels = trace.read(&x[..nx], &y[..ny], &m[..nm], &cells[..nt], &mut r[..nr]);
+    answers::levels(levels);
+    r
 }
 
 // put v x y mark
-fn put(
+pub(crate) fn put(
     command: Command,
     trace: Trace,
-    xs: &mut [i16],
-    ys: &mut [i16],
-    marks: &mut [u8],
+    n: Lengths,
+    x: [i16; part::ROOM],
+    y: [i16; part::ROOM],
+    m: [u8; part::ROOM],
     cells: &mut [u16],
-) -> Trace {
-    let v = command.count(0);
-    let x = command.coordinate(1);
-    let y = command.coordinate(2);
-    let mark = command.mark(3);
-    let changed = trace.put(xs, ys, marks, cells, v, x, y, mark);
+) -> After
+    requires { ⌜ (n .xs ≤ 320) × (n .ys ≤ 320) × (n .marks ≤ 320) × (n .cells ≤ length (now cells)) ⌝ }
+{
+    let nx = n.xs;
+    let ny = n.ys;
+    let nm = n.marks;
+    let nt = n.cells;
+    let v = command.count(1);
+    let sample = command.sample(2);
+    let mut x = x;
+    let mut y = y;
+    let mut m = m;
+    let changed = trace.put(
+        &mut x[..nx],
+        &mut y[..ny],
+        &mut m[..nm],
+        &mut cells[..nt],
+        v,
+        sample,
+    );
     answers::changed(changed);
-    changed.trace
+    let trace = changed.trace;
+    After { trace, x, y, m }
+}
+
+// The values of each list.
+fn across_of(lists: Lists) -> [i16; part::ROOM]
+    ensures { λ r. ⌜ 320 ≡ length r ⌝ }
+{
+    let list = lists.across;
+    let values = list.values;
+    part::all_shorts(values)
+}
+
+fn up_of(lists: Lists) -> [i16; part::ROOM]
+    ensures { λ r. ⌜ 320 ≡ length r ⌝ }
+{
+    let list = lists.up;
+    let values = list.values;
+    part::all_shorts(values)
+}
+
+fn restarts_of(lists: Lists) -> [u8; part::ROOM]
+    ensures { λ r. ⌜ 320 ≡ length r ⌝ }
+{
+    let list = lists.restarts;
+    let values = list.values;
+    part::all_bytes(values)
 }
 
 // upload
-fn upload(
-    lists: Lists,
+pub(crate) fn upload(
+    n: Lengths,
+    mut x: [i16; part::ROOM],
+    mut y: [i16; part::ROOM],
+    mut m: [u8; part::ROOM],
     trace: Trace,
-    xs: &mut [i16],
-    ys: &mut [i16],
-    marks: &mut [u8],
+    lists: Lists,
     cells: &mut [u16],
-) -> Trace {
-    let across = lists.across;
-    let up = lists.up;
-    let restarts = lists.restarts;
-    let a = across.values;
-    let u = up.values;
-    let r = restarts.values;
-    let a = part::all_shorts(a);
-    let u = part::all_shorts(u);
-    let r = part::all_bytes(r);
-    let na = part::within(across.n, part::ROOM);
-    let nu = part::within(up.n, part::ROOM);
-    let nr = part::within(restarts.n, part::ROOM);
-    let uploaded = trace.upload(xs, ys, marks, cells, &a[..na], &u[..nu], &r[..nr]);
+) -> After
+    requires { ⌜ (n .xs ≤ 320) × (n .ys ≤ 320) × (n .marks ≤ 320) × (n .cells ≤ length (now cells)) ⌝ }
+{
+    let nx = n.xs;
+    let ny = n.ys;
+    let nm = n.marks;
+    let nt = n.cells;
+    let k = lists::each_length(lists);
+    let na = k.across;
+    let nu = k.up;
+    let nr = k.restarts;
+    let a = across_of(lists);
+    let u = up_of(lists);
+    let r = restarts_of(lists);
+    let uploaded = trace.upload(
+        &mut x[..nx],
+        &mut y[..ny],
+        &mut m[..nm],
+        &mut cells[..nt],
+        &a[..na],
+        &u[..nu],
+        &r[..nr],
+    );
     answers::uploaded(uploaded);
-    uploaded.trace
-}
-
-// One call, by its operation; the trace after it.
-pub(crate) fn carry_out(
-    call: Call,
-    xs: &mut [i16],
-    ys: &mut [i16],
-    marks: &mut [u8],
-    cells: &mut [u16],
-    ranks: &mut [u8],
-) -> Trace {
-    let command = call.command;
-    let trace = call.trace;
-    let operation = command.operation();
-    if operation == 9 {
-        return put(command, trace, xs, ys, marks, cells);
-    }
-    if operation == 12 {
-        let lists = call.lists;
-        return upload(lists, trace, xs, ys, marks, cells);
-    }
-    if operation == 6 {
-        ask(command, trace, xs, ys, marks);
-        return trace;
-    }
-    read(trace, xs, ys, marks, cells, ranks);
-    trace
+    let trace = uploaded.trace;
+    After { trace, x, y, m }
 }

@@ -1,4 +1,5 @@
-// replay: runs a script of calls, and prints each answer with a digest of every lent buffer. Standard input is commands of 80 bytes (README.md has the format).
+// replay: runs a script of calls, and prints each answer with a digest of every lent buffer. Standard input is commands of 80
+// bytes (README.md has the format).
 mod calls;
 mod state;
 

@@ -1,8 +1,6 @@
 // What replay keeps from one command to the next, and the commands one after the other.
-ghost use Prim.Native.Nat.{_≤_};
-ghost use lib.ListN.{length};
 use crate::calls;
-use crate::calls::Call;
+use crate::calls::After;
 use script::command;
 use script::command::Command;
 use script::lent;
@@ -33,41 +31,17 @@ fn fresh() -> State {
     State { trace, lent, lists }
 }
 
-// A call over the first values of each buffer.
-fn lend(
-    call: Call,
-    n: Lengths,
-    x: [i16; part::ROOM],
-    y: [i16; part::ROOM],
-    m: [u8; part::ROOM],
-    r: [u8; part::ROOM],
-    cells: &mut [u16],
-) -> State
-    requires { ⌜ (n .xs ≤ 320) × (n .ys ≤ 320) × (n .marks ≤ 320) × (n .ranks ≤ 320) × (n .cells ≤ length (now cells)) ⌝ }
-{
-    let lists = call.lists;
-    let nx = n.xs;
-    let ny = n.ys;
-    let nm = n.marks;
-    let nr = n.ranks;
-    let nt = n.cells;
-    let mut x = x;
-    let mut y = y;
-    let mut m = m;
-    let mut r = r;
-    let trace = calls::carry_out(
-        call,
-        &mut x[..nx],
-        &mut y[..ny],
-        &mut m[..nm],
-        &mut cells[..nt],
-        &mut r[..nr],
-    );
+// The state that put and upload leave.
+fn kept(after: After, n: Lengths, r: [u8; part::ROOM], lists: Lists) -> State {
+    let trace = after.trace;
+    let x = after.x;
+    let y = after.y;
+    let m = after.m;
     let lent = lent::of(n, x, y, m, r);
     State { trace, lent, lists }
 }
 
-// A call over what is lent.
+// A call over what is lent, where the operation is one.
 fn give(command: Command, state: State, cells: &mut [u16]) -> State {
     let trace = state.trace;
     let lent = state.lent;
@@ -81,26 +55,34 @@ fn give(command: Command, state: State, cells: &mut [u16]) -> State {
     let m = marks.values;
     let r = ranks.values;
     let n = lent::each_length(lent, cells.len());
-    let call = Call {
-        command,
-        trace,
-        lists,
-    };
-    lend(call, n, x, y, m, r, cells)
+    let operation = command.word(0);
+    if operation == 6 {
+        calls::ask(command, trace, n, x, y, m);
+        return state;
+    }
+    if operation == 7 {
+        let r = calls::read(trace, n, x, y, m, r, cells);
+        let lent = lent::of(n, x, y, m, r);
+        return State { trace, lent, lists };
+    }
+    if operation == 9 {
+        return kept(calls::put(command, trace, n, x, y, m, cells), n, r, lists);
+    }
+    if operation == 12 {
+        return kept(calls::upload(n, x, y, m, trace, lists, cells), n, r, lists);
+    }
+    state
 }
 
-// The state after a command: after a call over what is lent, or, of any other, each part by the operations that are its own.
+// The state after a command: each part changed by the operations that are its own, and then by a call over what is lent.
 fn obey(command: Command, state: State, cells: &mut [u16]) -> State {
-    if calls::takes_buffers(command.operation()) {
-        return give(command, state, cells);
-    }
     let trace = state.trace;
     let lent = state.lent;
     let lists = state.lists;
     let trace = calls::alone(command, trace);
     let lent = lent::after(command, lent, cells);
     let lists = lists::after(command, lists);
-    State { trace, lent, lists }
+    give(command, State { trace, lent, lists }, cells)
 }
 
 // Carry a command out, and end its line.
@@ -110,7 +92,7 @@ fn turn(command: Command, steps: &[u32; 256], state: State, cells: &mut [u16]) -
         return state;
     }
     let next = obey(command, state, cells);
-    if calls::has_digest(command.operation()) {
+    if calls::has_digest(command.word(0)) {
         let lent = next.lent;
         lent::say_digest(steps, lent, cells);
     }

@@ -1,40 +1,32 @@
-// A command: 80 bytes, the operation, three zeros, and nineteen signed 32-bit numbers, low byte first.
-ghost use Prim.Native.Nat.{_<_, _≤_};
+// A command: 80 bytes, twenty words of 32 bits, low byte first. Word 0 is the operation, the others are nineteen signed numbers.
+ghost use Prim.Native.Nat.{_<_};
 use libc::STDIN_FILENO;
+use sample::Sample;
 
-// The bytes of a command, and its numbers.
+// The bytes of a command.
 pub const LENGTH: usize = 80;
-
-pub const NUMBERS: usize = 19;
 
 pub struct Command {
     pub bytes: [u8; LENGTH],
 }
 
-// A byte as a number.
-pub fn wide(b: u8) -> u32
-    ensures { λ r. ⌜ r ≤ 255 ⌝ }
-{
-    b as u32
+// Whether a word is a number of 16 bits, and the number.
+pub fn is_short(word: u32) -> bool {
+    word < 32768 || 4294934528 <= word
 }
 
-// Whether bits are those of a number of 16 bits, and the number.
-pub fn is_short(bits: u32) -> bool {
-    bits < 32768 || 4294934528 <= bits
+pub fn short(word: u32) -> i16 {
+    let low = word % 65536;
+    words::from_bits(low as u16)
 }
 
-pub fn short(bits: u32) -> i16 {
-    let low = bits % 65536;
-    record::from_bits(low as u16)
+// Whether it is a byte, and the byte.
+pub fn is_byte(word: u32) -> bool {
+    word <= 255
 }
 
-// Whether they are those of a byte, and the byte.
-pub fn is_byte(bits: u32) -> bool {
-    bits <= 255
-}
-
-pub fn byte(bits: u32) -> u8 {
-    let low = bits % 256;
+pub fn byte(word: u32) -> u8 {
+    let low = word % 256;
     low as u8
 }
 
@@ -51,73 +43,57 @@ pub fn next(bytes: &mut [u8; LENGTH]) -> bool {
 }
 
 impl Command {
-    // Whether the bytes after the operation are zero.
-    pub fn is_plain(self) -> bool {
-        self.bytes[1] == 0 && self.bytes[2] == 0 && self.bytes[3] == 0
-    }
-
-    pub fn operation(self) -> u8 {
-        self.bytes[0]
-    }
-
-    // The bits of number k.
-    pub fn bits(self, k: usize) -> u32
-        requires { ⌜ k < 19 ⌝ }
+    pub fn word(self, k: usize) -> u32
+        requires { ⌜ k < 20 ⌝ }
     {
-        let p = 4 + 4 * k;
-        let low = wide(self.bytes[p]) + 256 * wide(self.bytes[p + 1]);
-        let high = wide(self.bytes[p + 2]) + 256 * wide(self.bytes[p + 3]);
-        low + 65536 * high
+        let bytes = self.bytes;
+        words::long_at(&bytes, 4 * k)
     }
 
-    // Whether the numbers below n are not negative.
+    // A word as a count.
+    pub fn count(self, k: usize) -> usize
+        requires { ⌜ k < 20 ⌝ }
+    {
+        self.word(k) as usize
+    }
+
+    // Whether the words up to word n are not negative.
     pub fn are_whole(self, n: usize) -> bool
-        requires { ⌜ n ≤ 19 ⌝ }
+        requires { ⌜ n < 20 ⌝ }
     {
         let mut k = 0;
-        while k < n {
-            if 2147483648 <= self.bits(k) {
-                return false;
-            }
+        while k <= n && self.word(k) < 2147483648 {
             k += 1;
         }
-        true
+        n < k
     }
 
-    // Whether numbers k to k + 2 may be a sample: two of 16 bits and a byte.
+    // Whether words k to k + 2 may be a sample: two of 16 bits and a byte.
     pub fn is_sample(self, k: usize) -> bool
-        requires { ⌜ k < 17 ⌝ }
+        requires { ⌜ k < 18 ⌝ }
     {
-        is_short(self.bits(k)) && is_short(self.bits(k + 1)) && is_byte(self.bits(k + 2))
+        is_short(self.word(k)) && is_short(self.word(k + 1)) && is_byte(self.word(k + 2))
     }
 
-    // Number k as a coordinate, as a mark, and as a count.
-    pub fn coordinate(self, k: usize) -> i16
-        requires { ⌜ k < 19 ⌝ }
+    // The sample.
+    pub fn sample(self, k: usize) -> Sample
+        requires { ⌜ k < 18 ⌝ }
     {
-        short(self.bits(k))
+        Sample {
+            across: short(self.word(k)),
+            up: short(self.word(k + 1)),
+            mark: byte(self.word(k + 2)),
+        }
     }
 
-    pub fn mark(self, k: usize) -> u8
-        requires { ⌜ k < 19 ⌝ }
-    {
-        byte(self.bits(k))
-    }
-
-    pub fn count(self, k: usize) -> usize
-        requires { ⌜ k < 19 ⌝ }
-    {
-        self.bits(k) as usize
-    }
-
-    // Sixteen tolerances from number k on.
+    // Sixteen tolerances from word k on.
     pub fn tolerances(self, k: usize) -> [u32; 16]
-        requires { ⌜ k ≤ 3 ⌝ }
+        requires { ⌜ k < 5 ⌝ }
     {
         let mut out: [u32; 16] = [0; 16];
         let mut l = 0;
         while l < 16 {
-            out[l] = self.bits(k + l);
+            out[l] = self.word(k + l);
             l += 1;
         }
         out

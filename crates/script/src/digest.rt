@@ -1,5 +1,4 @@
 // CRC-32 of buffers one after the other, low byte first.
-use crate::command;
 use crate::part;
 use crate::part::Bytes;
 use crate::part::Shorts;
@@ -20,18 +19,14 @@ fn eight(b: u32) -> u32 {
     let mut c = b;
     let mut k: u32 = 0;
     while k < 8 {
-        c = one(c);
+        if c % 2 == 1 {
+            c = (c >> 1) ^ 0xEDB88320;
+        } else {
+            c = c >> 1;
+        }
         k += 1;
     }
     c
-}
-
-fn one(c: u32) -> u32 {
-    if c % 2 == 1 {
-        (c >> 1) ^ 0xEDB88320
-    } else {
-        c >> 1
-    }
 }
 
 // The digest with one byte more.
@@ -52,7 +47,7 @@ pub fn ended(c: u32) -> u32 {
     c ^ 0xFFFFFFFF
 }
 
-// The 16 bits of a coordinate, and of a cell.
+// The bits of a coordinate, a cell and a byte.
 fn bits_of(x: i16) -> u32 {
     let m = text::magnitude(x) as u32;
     if x < 0 { 65536 - m } else { m }
@@ -60,6 +55,10 @@ fn bits_of(x: i16) -> u32 {
 
 fn wide(cell: u16) -> u32 {
     cell as u32
+}
+
+fn byte_wide(byte: u8) -> u32 {
+    byte as u32
 }
 
 // The digest with the values in use more.
@@ -81,7 +80,7 @@ pub fn of_bytes(steps: &[u32; 256], c: u32, s: Bytes) -> u32 {
     let mut d = c;
     let mut p = 0;
     while p < n {
-        d = more(steps, d, command::wide(values[p]));
+        d = more(steps, d, byte_wide(values[p]));
         p += 1;
     }
     d

@@ -93,11 +93,11 @@ fn filled(lx: usize, ly: usize, lt: usize, lr: usize, lm: usize) -> Lent {
 
 // bufs LX LY LT LR LM: lend so much of each buffer, and fill it.
 fn bufs(command: Command, lent: Lent, cells: &mut [u16]) -> Lent {
-    let lx = command.count(0);
-    let ly = command.count(1);
-    let lt = command.count(2);
-    let lr = command.count(3);
-    let lm = command.count(4);
+    let lx = command.count(1);
+    let ly = command.count(2);
+    let lt = command.count(3);
+    let lr = command.count(4);
+    let lm = command.count(5);
     if !(has_room(lx, ly) && has_room(lr, lm) && lt <= cells.len()) {
         say::unknown();
         return lent;
@@ -113,13 +113,13 @@ fn poked(lent: Lent, w: u32, p: usize, v: u32) -> Lent {
     let mut marks = lent.marks;
     let mut ranks = lent.ranks;
     if w == 0 {
-        xs = part::with_short_at(xs, p, v);
+        xs = part::set_short(xs, p, xs.n, v);
     } else if w == 1 {
-        ys = part::with_short_at(ys, p, v);
+        ys = part::set_short(ys, p, ys.n, v);
     } else if w == 3 {
-        ranks = part::with_byte_at(ranks, p, v);
+        ranks = part::set_byte(ranks, p, ranks.n, v);
     } else if w == 4 {
-        marks = part::with_byte_at(marks, p, v);
+        marks = part::set_byte(marks, p, marks.n, v);
     } else {
         say::unknown();
     }
@@ -134,9 +134,9 @@ fn poked(lent: Lent, w: u32, p: usize, v: u32) -> Lent {
 
 // poke w p v: the same, and w = 2 a cell.
 fn poke(command: Command, lent: Lent, cells: &mut [u16]) -> Lent {
-    let w = command.bits(0);
-    let p = command.count(1);
-    let v = command.bits(2);
+    let w = command.word(1);
+    let p = command.count(2);
+    let v = command.word(3);
     if w == 2 {
         part::poke_cell(cells, lent.cells, p, v);
         return lent;
@@ -146,7 +146,7 @@ fn poke(command: Command, lent: Lent, cells: &mut [u16]) -> Lent {
 
 // What is lent after a command: bufs is operation 0, poke 2, and no other changes it.
 pub fn after(command: Command, lent: Lent, cells: &mut [u16]) -> Lent {
-    let operation = command.operation();
+    let operation = command.word(0);
     if operation == 0 {
         return bufs(command, lent, cells);
     }

@@ -1,4 +1,5 @@
 // The lists of an upload.
+ghost use Prim.Native.Nat.{_≤_};
 use crate::command::Command;
 use crate::part;
 use crate::part::Bytes;
@@ -9,6 +10,26 @@ pub struct Lists {
     pub across: Shorts,
     pub up: Shorts,
     pub restarts: Bytes,
+}
+
+// How many values each list has, within the room.
+pub struct Counts {
+    pub across: usize,
+    pub up: usize,
+    pub restarts: usize,
+}
+
+pub fn each_length(lists: Lists) -> Counts
+    ensures { λ r. ⌜ (r .across ≤ 320) × (r .up ≤ 320) × (r .restarts ≤ 320) ⌝ }
+{
+    let across = lists.across;
+    let up = lists.up;
+    let restarts = lists.restarts;
+    Counts {
+        across: part::within(across.n, part::ROOM),
+        up: part::within(up.n, part::ROOM),
+        restarts: part::within(restarts.n, part::ROOM),
+    }
 }
 
 // Lists without values.
@@ -25,17 +46,17 @@ pub fn empty() -> Lists {
 
 // list w v: append a value to the list w = 0 across, 1 up, 2 marks.
 fn list(command: Command, lists: Lists) -> Lists {
-    let w = command.bits(0);
-    let v = command.bits(1);
+    let w = command.word(1);
+    let v = command.word(2);
     let mut across = lists.across;
     let mut up = lists.up;
     let mut restarts = lists.restarts;
     if w == 0 {
-        across = part::with_short(across, v);
+        across = part::set_short(across, across.n, part::ROOM, v);
     } else if w == 1 {
-        up = part::with_short(up, v);
+        up = part::set_short(up, up.n, part::ROOM, v);
     } else if w == 2 {
-        restarts = part::with_byte(restarts, v);
+        restarts = part::set_byte(restarts, restarts.n, part::ROOM, v);
     } else {
         say::unknown();
     }
@@ -48,7 +69,7 @@ fn list(command: Command, lists: Lists) -> Lists {
 
 // The lists after a command: list is operation 10, empty 11, and no other changes them.
 pub fn after(command: Command, lists: Lists) -> Lists {
-    let operation = command.operation();
+    let operation = command.word(0);
     if operation == 10 {
         return list(command, lists);
     }

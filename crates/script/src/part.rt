@@ -50,53 +50,36 @@ fn may_take(place: bool, value: bool) -> bool {
     false
 }
 
-// With a value of 16 bits at place p, which is cut at the room; n in use.
-fn set_short(s: Shorts, p: usize, n: usize, bits: u32) -> Shorts {
+// With a value at place p, one more in use where p is the next; as it was, with the line of a command that is none, where p is
+// not below `most` or the value is none of its type.
+pub fn set_short(s: Shorts, p: usize, most: usize, word: u32) -> Shorts {
+    if !may_take(p < most, command::is_short(word)) {
+        return s;
+    }
     let mut values = s.values;
+    let mut n = s.n;
     if p < ROOM {
-        values[p] = command::short(bits);
+        values[p] = command::short(word);
+        if n == p {
+            n = p + 1;
+        }
     }
     Shorts { values, n }
 }
 
-fn set_byte(s: Bytes, p: usize, n: usize, bits: u32) -> Bytes {
+pub fn set_byte(s: Bytes, p: usize, most: usize, word: u32) -> Bytes {
+    if !may_take(p < most, command::is_byte(word)) {
+        return s;
+    }
     let mut values = s.values;
+    let mut n = s.n;
     if p < ROOM {
-        values[p] = command::byte(bits);
+        values[p] = command::byte(word);
+        if n == p {
+            n = p + 1;
+        }
     }
     Bytes { values, n }
-}
-
-// A value put at a place in use; as it was, with the line of a command that is none, where there is no such place or the value is none of its type.
-pub fn with_short_at(s: Shorts, p: usize, bits: u32) -> Shorts {
-    if !may_take(p < s.n, command::is_short(bits)) {
-        return s;
-    }
-    set_short(s, p, s.n, bits)
-}
-
-pub fn with_byte_at(s: Bytes, p: usize, bits: u32) -> Bytes {
-    if !may_take(p < s.n, command::is_byte(bits)) {
-        return s;
-    }
-    set_byte(s, p, s.n, bits)
-}
-
-// A list with one value more; as it was, with that line, where it has no room or the value is none of its type.
-pub fn with_short(list: Shorts, bits: u32) -> Shorts {
-    let n = within(list.n, ROOM);
-    if !may_take(n < ROOM, command::is_short(bits)) {
-        return list;
-    }
-    set_short(list, n, n + 1, bits)
-}
-
-pub fn with_byte(list: Bytes, bits: u32) -> Bytes {
-    let n = within(list.n, ROOM);
-    if !may_take(n < ROOM, command::is_byte(bits)) {
-        return list;
-    }
-    set_byte(list, n, n + 1, bits)
 }
 
 // A number of 16 bits and a step, modulo 65,536.
@@ -117,7 +100,7 @@ pub fn rising_shorts(n: usize, start: u16, step: u32) -> Shorts {
     let mut v = start;
     let mut p = 0;
     while p < ROOM {
-        values[p] = record::from_bits(v);
+        values[p] = words::from_bits(v);
         v = next(v, step);
         p += 1;
     }
@@ -149,13 +132,13 @@ pub fn rise(s: &mut [u16], n: usize, start: u16, step: u32) {
 }
 
 // A value put into one of the first n cells of a table, with that line where it is not.
-pub fn poke_cell(s: &mut [u16], n: usize, p: usize, bits: u32) {
+pub fn poke_cell(s: &mut [u16], n: usize, p: usize, word: u32) {
     let m = within(n, s.len());
     if m <= p {
         return say::unknown();
     }
-    if 65535 < bits {
+    if 65535 < word {
         return say::unknown();
     }
-    s[p] = bits as u16;
+    s[p] = word as u16;
 }

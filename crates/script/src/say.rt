@@ -1,19 +1,10 @@
-// The line of an answer, on standard output: its number first, then numbers with a space before each.
-ghost use Prim.Native.Nat.{_≤_};
-ghost use lib.ListN.{length};
+// The pieces of a line, on standard output.
 use libc::STDOUT_FILENO;
 use refusal::Outcome;
 
 // Bytes as they are.
 pub fn bytes(text: &[u8]) {
     io::write_all(STDOUT_FILENO, text);
-}
-
-// The first bytes of a text.
-fn first(text: &[u8], end: usize)
-    requires { ⌜ end ≤ length (now text) ⌝ }
-{
-    io::write_all(STDOUT_FILENO, &text[..end]);
 }
 
 // The line of a command that is none.
@@ -26,33 +17,27 @@ pub fn outcome(o: Outcome) {
     io::print_decimal(STDOUT_FILENO, refusal::number(o) as u64);
 }
 
-// A number more.
+// A number more, after a space.
 pub fn number(n: u64) {
-    let mut text = [0u8; 21];
-    let at = text::byte(&mut text, 0, b' ');
-    let at = text::number(&mut text, at, n);
-    first(&text, at);
+    bytes(b" ");
+    io::print_decimal(STDOUT_FILENO, n);
 }
 
-// A signed number more.
+// A signed number as it is.
 pub fn signed(z: i16) {
-    let mut text = [0u8; 7];
-    let at = text::byte(&mut text, 0, b' ');
-    let at = text::signed(&mut text, at, z);
-    first(&text, at);
+    if z < 0 {
+        bytes(b"-");
+    }
+    io::print_decimal(STDOUT_FILENO, text::magnitude(z));
 }
 
 // Sixteen numbers more.
 pub fn sixteen(numbers: [u32; 16]) {
-    let mut text = [0u8; 176];
-    let mut to = 0;
     let mut l = 0;
     while l < 16 {
-        to = text::byte(&mut text, to, b' ');
-        to = text::number(&mut text, to, numbers[l] as u64);
+        number(numbers[l] as u64);
         l += 1;
     }
-    first(&text, to);
 }
 
 // The end of the line.

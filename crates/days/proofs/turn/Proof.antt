@@ -19,8 +19,14 @@ broken-requires c κs = search needs
 returns-2 : tie.Need-returns-2
 returns-2 c = search needs
 
-length-of-requires : tie.Need-length-of-requires
-length-of-requires c κs = search needs
+slice-aggregate-long-at : tie.Need-slice-aggregate-long-at
+slice-aggregate-long-at c = search needs
+
+long-at-requires : tie.Need-long-at-requires
+long-at-requires c κs = search needs
+
+cast-n : tie.Need-cast-n
+cast-n c = search needs
 
 slice-aggregate-read-day : tie.Need-slice-aggregate-read-day
 slice-aggregate-read-day c = search needs
@@ -55,7 +61,9 @@ turn-spec =
     returns
     broken-requires
     returns-2
-    length-of-requires
+    slice-aggregate-long-at
+    long-at-requires
+    cast-n
     slice-aggregate-read-day
     read-day-requires
     broken-requires-2

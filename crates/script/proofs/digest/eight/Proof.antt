@@ -13,9 +13,6 @@ abbrev μ-loop : tie.MeasureT-loop
 loop-holds : tie.Need-loop-holds Inv-loop μ-loop
 loop-holds c = search needs
 
-one-requires : tie.Need-one-requires Inv-loop μ-loop
-one-requires c κs = search needs
-
 add-k : tie.Need-add-k Inv-loop μ-loop
 add-k c = search needs
 
@@ -29,5 +26,4 @@ returns : tie.Need-returns Inv-loop μ-loop
 returns c = search needs
 
 pub eight-spec : {M : Type 1} → statement M
-eight-spec =
-    tie.close (tie.spec Inv-loop μ-loop loop-holds one-requires add-k loop-less loop-again returns)
+eight-spec = tie.close (tie.spec Inv-loop μ-loop loop-holds add-k loop-less loop-again returns)

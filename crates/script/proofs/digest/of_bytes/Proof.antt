@@ -16,11 +16,11 @@ within-requires c κs = search needs
 loop-holds : tie.Need-loop-holds Inv-loop μ-loop
 loop-holds c = search needs
 
-array-read-wide : tie.Need-array-read-wide Inv-loop μ-loop
-array-read-wide c = search needs
+array-read-byte-wide : tie.Need-array-read-byte-wide Inv-loop μ-loop
+array-read-byte-wide c = search needs
 
-wide-requires : tie.Need-wide-requires Inv-loop μ-loop
-wide-requires c κs = search needs
+byte-wide-requires : tie.Need-byte-wide-requires Inv-loop μ-loop
+byte-wide-requires c κs = search needs
 
 more-requires : tie.Need-more-requires Inv-loop μ-loop
 more-requires c κs = search needs
@@ -45,8 +45,8 @@ of-bytes-spec =
     μ-loop
     within-requires
     loop-holds
-    array-read-wide
-    wide-requires
+    array-read-byte-wide
+    byte-wide-requires
     more-requires
     add-p
     loop-less

@@ -13,11 +13,11 @@ abbrev μ-loop : tie.MeasureT-loop
 loop-holds : tie.Need-loop-holds Inv-loop μ-loop
 loop-holds c = search needs
 
-add-bits : tie.Need-add-bits Inv-loop μ-loop
-add-bits c = search needs
+add-word : tie.Need-add-word Inv-loop μ-loop
+add-word c = search needs
 
-bits-requires : tie.Need-bits-requires Inv-loop μ-loop
-bits-requires c κs = search needs
+word-requires : tie.Need-word-requires Inv-loop μ-loop
+word-requires c κs = search needs
 
 mul-out : tie.Need-mul-out Inv-loop μ-loop
 mul-out c = search needs
@@ -44,8 +44,8 @@ tolerances-spec =
     Inv-loop
     μ-loop
     loop-holds
-    add-bits
-    bits-requires
+    add-word
+    word-requires
     mul-out
     array-write-out
     add-l
