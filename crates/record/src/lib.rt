@@ -7,8 +7,6 @@ ghost use Rattle.words.specs.Word.{signedAt};
 ghost use Rattle.record.specs.Record.{counter, editionOk, spareOk, fieldsOk, recordOutcome, decodeOutcome, decodeOf};
 use refusal::Outcome;
 use refusal::Refusal;
-use refusal::and_then;
-use refusal::unless;
 use sample::coordinate_ok;
 use words::long_at;
 use words::signed_at;
@@ -111,12 +109,16 @@ pub fn record_outcome(s: &[u8], p: usize) -> Outcome
     requires { ⌜ p + 16 ≤ length (now s) ⌝ }
     ensures { λ r. ⌜ r ≡ recordOutcome (now (s .entry)) p ⌝ }
 {
-    let placed = unless(
-        in_range_at(s, p) & in_range_at(s, p + UP),
-        Refusal::Coordinate,
-    );
-    let whole = unless(fields_ok(s, p), Refusal::Record);
-    and_then(placed, whole)
+    if !in_range_at(s, p) {
+        return Outcome::Refused(Refusal::Coordinate);
+    }
+    if !in_range_at(s, p + UP) {
+        return Outcome::Refused(Refusal::Coordinate);
+    }
+    if !fields_ok(s, p) {
+        return Outcome::Refused(Refusal::Record);
+    }
+    Outcome::Done
 }
 
 // One record alone: 10, then 6 and 11.
