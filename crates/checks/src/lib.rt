@@ -5,7 +5,7 @@ ghost use mathlib.Core.Bool.{_&&_};
 ghost use lib.Dec.{leb};
 ghost use lib.ListN.{length};
 ghost use Rattle.sample.specs.Samples.{samples};
-ghost use Rattle.checks.specs.Rows.{samplesLent, tableLent, lentOutcome, storedOk, stretchOk, listsOk, samplesOutcome, traceOutcome, placeOutcome, sampleOutcome, uploadOutcome, askOutcome, readOutcome};
+ghost use Rattle.checks.specs.Rows.{lengths, samplesLent, tableLent, lentOutcome, storedOk, stretchOk, listsOk, samplesOutcome, traceOutcome, placeOutcome, sampleOutcome, uploadOutcome, askOutcome, readOutcome};
 use refusal::Outcome;
 use refusal::Refusal;
 use refusal::and_then;
@@ -19,6 +19,17 @@ pub struct Lengths {
     pub across: usize,
     pub up: usize,
     pub marks: usize,
+}
+
+// Those of three slices.
+pub fn lengths_of(xs: &[i16], ys: &[i16], marks: &[u8]) -> Lengths
+    ensures { λ r. ⌜ r ≡ lengths (samples (now (xs .entry)) (now (ys .entry)) (now (marks .entry))) ⌝ }
+{
+    Lengths {
+        across: xs.len(),
+        up: ys.len(),
+        marks: marks.len(),
+    }
 }
 
 // ---- the tests
@@ -89,12 +100,7 @@ pub fn lent_outcome(s: Sizes, lent: bool) -> Outcome
 pub fn samples_outcome(s: Sizes, xs: &[i16], ys: &[i16], marks: &[u8]) -> Outcome
     ensures { λ r. ⌜ r ≡ samplesOutcome s (samples (now (xs .entry)) (now (ys .entry)) (now (marks .entry))) ⌝ }
 {
-    let lent = Lengths {
-        across: xs.len(),
-        up: ys.len(),
-        marks: marks.len(),
-    };
-    let o = lent_outcome(s, samples_lent(s.capacity, lent));
+    let o = lent_outcome(s, samples_lent(s.capacity, lengths_of(xs, ys, marks)));
     let Outcome::Done = o else {
         return o;
     };
@@ -105,12 +111,8 @@ pub fn samples_outcome(s: Sizes, xs: &[i16], ys: &[i16], marks: &[u8]) -> Outcom
 pub fn trace_outcome(s: Sizes, xs: &[i16], ys: &[i16], marks: &[u8], table: &[u16]) -> Outcome
     ensures { λ r. ⌜ r ≡ traceOutcome s (samples (now (xs .entry)) (now (ys .entry)) (now (marks .entry))) (now (table .entry)) ⌝ }
 {
-    let lent = Lengths {
-        across: xs.len(),
-        up: ys.len(),
-        marks: marks.len(),
-    };
-    let long = samples_lent(s.capacity, lent) & table_lent(s, table.len());
+    let places = samples_lent(s.capacity, lengths_of(xs, ys, marks));
+    let long = places & table_lent(s, table.len());
     let o = lent_outcome(s, long);
     let Outcome::Done = o else {
         return o;
@@ -186,12 +188,8 @@ pub fn read_outcome(
 ) -> Outcome
     ensures { λ r. ⌜ r ≡ readOutcome s (samples (now (xs .entry)) (now (ys .entry)) (now (marks .entry))) (now (table .entry)) bytes ⌝ }
 {
-    let lent = Lengths {
-        across: xs.len(),
-        up: ys.len(),
-        marks: marks.len(),
-    };
-    let long = samples_lent(s.capacity, lent) & table_lent(s, table.len()) & (s.held <= bytes);
+    let places = samples_lent(s.capacity, lengths_of(xs, ys, marks));
+    let long = places & table_lent(s, table.len()) & (s.held <= bytes);
     let o = lent_outcome(s, long);
     let Outcome::Done = o else {
         return o;

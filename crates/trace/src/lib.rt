@@ -7,7 +7,6 @@ ghost use Rattle.checks.specs.Numbers.{OneLength};
 ghost use Rattle.checks.specs.Rows.{traceOutcome, Passed, PassedTable};
 ghost use Rattle.trace.specs.Calls.{sizes, buffers, holding, StartGives, PutGives, AskGives, ReadGives};
 ghost use Rattle.trace.specs.Upload.{zipped, Puts, UploadGives};
-use checks::Lengths;
 use geometry::Verdict;
 use refusal::Outcome;
 use refusal::Refusal;
@@ -243,11 +242,7 @@ impl Trace {
     ) -> Uploaded
         ensures { λ r. ⌜ UploadGives self (buffers (samples (now (xs .entry)) (now (ys .entry)) (now (marks .entry))) (now (table .entry))) (samples (now (across .entry)) (now (up .entry)) (now (restarts .entry))) r (buffers (samples (now (xs .exit)) (now (ys .exit)) (now (marks .exit))) (now (table .exit))) (samples (now (across .exit)) (now (up .exit)) (now (restarts .exit))) ⌝ }
     {
-        let lists = Lengths {
-            across: across.len(),
-            up: up.len(),
-            marks: restarts.len(),
-        };
+        let lists = checks::lengths_of(across, up, restarts);
         let o = checks::upload_outcome(self.sizes(), xs, ys, marks, table, lists);
         if let Outcome::Refused(why) = o {
             return Uploaded {

@@ -14,16 +14,19 @@ use Rattle.checks.proofs.read_outcome.Tie as tie
 
 -- what checks 1 to 4 said, and that they passed in the arm that goes on
 room : (c : tie.After-lent-outcome) →
-    let a = c .before .before .before .before .before .before .args in
+    let a = c .before .before .before .before .before .before .before .args in
     c .lent-outcome .result ≡ lentOutcome (a .s) ((samplesLent (a .s .capacity) (lengths (samples (a .xs .now) (a .ys .now) (a .marks .now))) && tableLent (a .s) (length (a .table .now))) && leb (a .s .held) (a .bytes))
 room c =
-    let a = c .before .before .before .before .before .before .args in
-    c .lent-outcome .ensures ∙ ap (lentOutcome (a .s)) (ap₂ (λ (p q : Bool). (p && q) && leb (a .s .held) (a .bytes)) (c .before .before .before .samples-lent .ensures) (c .before .before .table-lent .ensures))
+    let a = c .before .before .before .before .before .before .before .args in
+    c .lent-outcome .ensures ∙ ap (lentOutcome (a .s)) (ap₂ (λ (p q : Bool). (p && q) && leb (a .s .held) (a .bytes)) (c .before .before .before .samples-lent .ensures ∙ ap (samplesLent _) (c .before .before .before .before .lengths-of .ensures)) (c .before .before .table-lent .ensures))
 
 passed : (c : tie.After-enum-told) →
-    let a = c .before .before .before .before .before .before .before .before .args in
+    let a = c .before .before .before .before .before .before .before .before .before .args in
     lentOutcome (a .s) ((samplesLent (a .s .capacity) (lengths (samples (a .xs .now) (a .ys .now) (a .marks .now))) && tableLent (a .s) (length (a .table .now))) && leb (a .s .held) (a .bytes)) ≡ Done
 passed c = sym (room (c .before .before)) ∙ c .enum-told .given .1
+
+lengths-of-requires : tie.Need-lengths-of-requires
+lengths-of-requires c κs = search needs
 
 samples-lent-requires : tie.Need-samples-lent-requires
 samples-lent-requires c κs = search needs
@@ -46,7 +49,7 @@ returns c = then-refused _ (room (c .before .before)) (c .enum-told2 .given .1)
 
 stored-ok-requires : tie.Need-stored-ok-requires
 stored-ok-requires c κs =
-    let a = c .before .before .before .before .before .before .before .before .args in
+    let a = c .before .before .before .before .before .before .before .before .before .args in
     let l = lent-done (a .s) _ (passed c) in
     table-held (a .s) (samples (a .xs .now) (a .ys .now) (a .marks .now)) (a .table .now) l (and-left _ (leb (a .s .held) (a .bytes)) (l .long))
 
@@ -71,6 +74,7 @@ pub read-outcome-spec : {M : Type 1} → statement M
 read-outcome-spec =
     tie.close
     (tie.spec
+    lengths-of-requires
     samples-lent-requires
     table-lent-requires
     lent-outcome-requires

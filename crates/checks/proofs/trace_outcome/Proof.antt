@@ -13,14 +13,17 @@ use Rattle.checks.proofs.trace_outcome.Tie as tie
 
 -- what checks 1 to 4 said, and that they passed in the arm that goes on
 room : (c : tie.After-lent-outcome) →
-    let a = c .before .before .before .before .before .args in
+    let a = c .before .before .before .before .before .before .args in
     c .lent-outcome .result ≡ lentOutcome (a .s) (samplesLent (a .s .capacity) (lengths (samples (a .xs .now) (a .ys .now) (a .marks .now))) && tableLent (a .s) (length (a .table .now)))
-room c = c .lent-outcome .ensures ∙ ap (lentOutcome _) (ap₂ _&&_ (c .before .before .samples-lent .ensures) (c .before .table-lent .ensures))
+room c = c .lent-outcome .ensures ∙ ap (lentOutcome _) (ap₂ _&&_ (c .before .before .samples-lent .ensures ∙ ap (samplesLent _) (c .before .before .before .lengths-of .ensures)) (c .before .table-lent .ensures))
 
 passed : (c : tie.After-enum-told) →
-    let a = c .before .before .before .before .before .before .before .args in
+    let a = c .before .before .before .before .before .before .before .before .args in
     lentOutcome (a .s) (samplesLent (a .s .capacity) (lengths (samples (a .xs .now) (a .ys .now) (a .marks .now))) && tableLent (a .s) (length (a .table .now))) ≡ Done
 passed c = sym (room (c .before .before)) ∙ c .enum-told .given .1
+
+lengths-of-requires : tie.Need-lengths-of-requires
+lengths-of-requires c κs = search needs
 
 samples-lent-requires : tie.Need-samples-lent-requires
 samples-lent-requires c κs = search needs
@@ -43,7 +46,7 @@ returns c = then-refused _ (room (c .before .before)) (c .enum-told2 .given .1)
 
 stored-ok-requires : tie.Need-stored-ok-requires
 stored-ok-requires c κs =
-    let a = c .before .before .before .before .before .before .before .args in
+    let a = c .before .before .before .before .before .before .before .before .args in
     let l = lent-done (a .s) _ (passed c) in
     table-held (a .s) (samples (a .xs .now) (a .ys .now) (a .marks .now)) (a .table .now) l (l .long)
 
@@ -60,6 +63,7 @@ pub trace-outcome-spec : {M : Type 1} → statement M
 trace-outcome-spec =
     tie.close
     (tie.spec
+    lengths-of-requires
     samples-lent-requires
     table-lent-requires
     lent-outcome-requires

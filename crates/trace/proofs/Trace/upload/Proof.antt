@@ -12,13 +12,16 @@ use Rattle.trace.proofs.Trace.upload.Tie as tie
 
 -- where the checks before the first sample refused nothing
 ready : (c : tie.After-enum-told) →
-    let a = c .before .before .before .before .before .before .before .before .before .before .before .args in
+    let a = c .before .before .before .before .before .before .before .before .before .before .before .before .args in
     OneLength (samples (a .across .now) (a .up .now) (a .restarts .now))
     × (0 < length (a .across .now) → Passed (sizes (a .self)) (samples (a .xs .now) (a .ys .now) (a .marks .now)) × PassedTable (sizes (a .self)) (a .table .now))
 ready c =
-    let a = c .before .before .before .before .before .before .before .before .before .before .before .args in
+    let a = c .before .before .before .before .before .before .before .before .before .before .before .before .args in
     upload-ready (a .self) (buffers (samples (a .xs .now) (a .ys .now) (a .marks .now)) (a .table .now)) (samples (a .across .now) (a .up .now) (a .restarts .now))
-    (rw (c .before .before .upload-outcome .ensures, c .before .before .before .before .before .before .before .sizes .ensures) at (c .enum-told .given .1))
+    (rw (c .before .before .upload-outcome .ensures, c .before .before .before .before .before .before .before .sizes .ensures, c .before .before .before .before .before .before .before .before .lengths-of .ensures) at (c .enum-told .given .1))
+
+lengths-of-requires : tie.Need-lengths-of-requires
+lengths-of-requires c κs = search needs
 
 sizes-requires : tie.Need-sizes-requires
 sizes-requires c κs = search needs
@@ -43,9 +46,9 @@ same-length-4 c = search needs
 
 returns : tie.Need-returns
 returns c =
-    let a = c .before .before .before .before .before .before .before .before .before .before .before .before .args in
+    let a = c .before .before .before .before .before .before .before .before .before .before .before .before .before .args in
     upload-stopped (a .self) (buffers (samples (a .xs .now) (a .ys .now) (a .marks .now)) (a .table .now)) (samples (a .across .now) (a .up .now) (a .restarts .now))
-    (rw (c .before .before .before .upload-outcome .ensures, c .before .before .before .before .before .before .before .before .sizes .ensures) at (c .before .o .given .1))
+    (rw (c .before .before .before .upload-outcome .ensures, c .before .before .before .before .before .before .before .before .sizes .ensures, c .before .before .before .before .before .before .before .before .before .lengths-of .ensures) at (c .before .o .given .1))
 
 enum-told : tie.Need-enum-told
 enum-told c = search needs
@@ -79,6 +82,7 @@ pub upload-spec : {M : Type 1} → statement M
 upload-spec =
     tie.close
     (tie.spec
+    lengths-of-requires
     sizes-requires
     upload-outcome-requires
     enum-known-o
