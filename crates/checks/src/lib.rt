@@ -1,8 +1,6 @@
 // The refusal rows of the calls on a trace, and their loops: for every crate that refuses as put, ask or read does.
 ghost use mathlib.Core.Path.{_≡_};
 ghost use Prim.Native.Nat.{_*_, _≤_};
-ghost use mathlib.Core.Bool.{_&&_};
-ghost use lib.Dec.{leb};
 ghost use lib.ListN.{length};
 ghost use Rattle.sample.specs.Samples.{samples};
 ghost use Rattle.checks.specs.Rows.{lengths, samplesLent, tableLent, lentOutcome, storedOk, stretchOk, listsOk, samplesOutcome, traceOutcome, placeOutcome, sampleOutcome, uploadOutcome, askOutcome, readOutcome};

@@ -1,5 +1,5 @@
 -- A record is given exactly the number of the plain statements, whatever its bytes. Assumes nothing.
-use mathlib.Core.Path.{_≡_, refl, sym, _∙_}
+use mathlib.Core.Path.{_≡_, sym, _∙_}
 use mathlib.Core.Logic.{inl, inr, ⊎-elim}
 use mathlib.Core.Bool.{true, false, _&&_}
 use mathlib.Core.List.{List}
