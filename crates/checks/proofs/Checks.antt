@@ -1,6 +1,6 @@
 -- What a row of tests that ends in Done says of sizes: of the setup, of what is lent and of the samples held. Assumes nothing.
 use mathlib.Core.Path.{_≡_}
-use mathlib.Core.Bool.{Bool, true, _&&_}
+use mathlib.Core.Bool.{Bool, true}
 use mathlib.Core.List.{List}
 use Prim.Native.Nat.{ℕ, _*_, _≤_}
 use native.Mathlib.Nat.{le-trans}
@@ -13,9 +13,10 @@ use Rattle.sample.specs.Samples.{Samples}
 use Rattle.sizes.specs.declared.Sizes.{Sizes}
 use Rattle.sizes.specs.Setup.{Sized}
 use Rattle.sizes.specs.Rows.{setupOutcome}
-use Rattle.checks.specs.Rows.{lengths, samplesLent, tableLent, lentOutcome}
+use Rattle.checks.specs.Numbers.{LentSamples, LentTable}
+use Rattle.checks.specs.Rows.{lengths, samplesLent, lentOutcome}
 use Rattle.sizes.proofs.Decided.{setup-done}
-use Rattle.checks.proofs.Decided.{lent-samples, lent-table}
+use Rattle.checks.proofs.Decided.{lent-samples}
 
 -- what checks 1 to 4 have shown
 pub record Lent (a : Sizes) (lent : Bool) : Type 0 where
@@ -43,9 +44,8 @@ samples-held a xs h =
     (le-trans (l .held) (p .0), le-trans (l .held) (p .1), le-trans (l .held) (p .2))
 
 -- and, where a table is lent, the stretches their cells, whatever else is lent
-pub table-held : (a : Sizes) (xs : Samples) (t : List ℕ) {lent : Bool} → Lent a lent → samplesLent (a .capacity) (lengths xs) && tableLent a (length t) ≡ true
+pub table-held : (a : Sizes) (xs : Samples) (t : List ℕ) {lent : Bool} → Lent a lent → LentSamples a xs × LentTable a t
     → ((a .held ≤ length (xs .across)) × (a .held ≤ length (xs .up)) × (a .held ≤ length (xs .marks)))
     × ((a .levels ≤ 16) × (a .capacity ≤ 256) × (a .levels * (a .capacity * a .capacity) ≤ length t) × (a .held ≤ a .capacity))
-table-held a xs t l e =
-    let p = lent-table a xs t .right e in
+table-held a xs t l p =
     ((le-trans (l .held) (p .0 .0), le-trans (l .held) (p .0 .1), le-trans (l .held) (p .0 .2)), (l .sized .1, l .sized .3, p .1, l .held))

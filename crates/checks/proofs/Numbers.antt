@@ -23,7 +23,7 @@ use Rattle.sample.specs.Valid.{Valid}
 use Rattle.sizes.specs.Setup.{SetupNumber}
 use Rattle.checks.specs.Numbers.{LentSamples, LentTable, StoredSamples, StoredCells, TraceNumber, PlaceNumber, Good, StartNumber, PutNumber, AskNumber, ReadNumber}
 use Rattle.sizes.specs.Rows.{setupOutcome}
-use Rattle.checks.specs.Rows.{lentOutcome, samplesOutcome, traceOutcome, placeOutcome, sampleOutcome, putOutcome, askOutcome, readOutcome}
+use Rattle.checks.specs.Rows.{lentOutcome, samplesOutcome, storedOutcome, traceOutcome, placeOutcome, sampleOutcome, putOutcome, askOutcome, readOutcome}
 use Rattle.sample.proofs.Decided.{samples-decided, sample-decided}
 use Rattle.sizes.proofs.Decided.{setup-row}
 use Rattle.checks.proofs.Decided.{lent-samples, lent-table, lent-ranks, stored-decided, there-decided, absent, not-both}
@@ -42,13 +42,18 @@ pub samples-row : (a : Sizes) (xs : Samples) → Row (samplesOutcome a xs) (Trac
 unfolding samplesOutcome
 samples-row a xs = then-row _ _ (held-row a _ (lent-samples a xs)) (λ e. unless-row _ Stored (samples-decided xs (a .held)))
 
+pub stored-row : (a : Sizes) {Lent : Type 0} (long : Bool) → Decides Lent long → (xs : Samples) (t : List ℕ)
+    → Row (storedOutcome a long xs t) (TraceNumber a Lent (StoredSamples a xs × StoredCells a t))
+unfolding storedOutcome
+stored-row a long d xs t = then-row _ _ (held-row a long d) (λ e. unless-row _ Stored (stored-decided a xs t))
+
 pub trace-row : (a : Sizes) (xs : Samples) (t : List ℕ) → Row (traceOutcome a xs t) (TraceNumber a (LentSamples a xs × LentTable a t) (StoredSamples a xs × StoredCells a t))
 unfolding traceOutcome
-trace-row a xs t = then-row _ _ (held-row a _ (lent-table a xs t)) (λ e. unless-row _ Stored (stored-decided a xs t))
+trace-row a xs t = stored-row a _ (lent-table a xs t) xs t
 
 -- past check 4 no more samples are held than there is room for
 pub held-within : (a : Sizes) (xs : Samples) (t : List ℕ) → traceOutcome a xs t ≡ Done → a .held ≤ a .capacity
-unfolding traceOutcome
+unfolding traceOutcome storedOutcome
 held-within a xs t e = lent-done a _ (then-done _ _ e .0) .held
 
 -- 7 and 8, where that is so
@@ -102,9 +107,8 @@ pub read-number : (a : Sizes) (xs : Samples) (t ranks : List ℕ) → ReadNumber
 unfolding readOutcome
 read-number a xs t ranks =
     row-number _ _
-    (then-row _ _ (held-row a _ (lent-ranks a xs t ranks))
-    (λ e. then-row _ _ (unless-row _ Stored (stored-decided a xs t))
-    (λ f. test-row _ Few (λ b l. omega (arith, leb-true 2 (a .held) b)) (leb-false 2 (a .held)))))
+    (then-row _ _ (stored-row a _ (lent-ranks a xs t ranks) xs t)
+    (λ e. test-row _ Few (λ b l. omega (arith, leb-true 2 (a .held) b)) (leb-false 2 (a .held))))
 
 -- ---- two numbers that one of the statements gives are equal
 pub good-one : (j k : ℕ) → Good j → Good k → j ≡ k

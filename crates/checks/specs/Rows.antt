@@ -39,13 +39,15 @@ lentOutcome a lent =
 unfoldable pub storedOk : Sizes → Samples → List ℕ → Bool
 storedOk a xs t = samplesOk xs (a .held) && cellsOk t (a .capacity) (a .held) (a .levels)
 
--- 1 to 5 of a call that is lent the samples alone, and of one that is lent the table too
+-- 1 to 5 of a call that is lent the samples alone; of one that is lent the table too, by whether all that it is lent is long enough
 unfoldable pub samplesOutcome : Sizes → Samples → Outcome
 samplesOutcome a xs = andThen (lentOutcome a (samplesLent (a .capacity) (lengths xs))) (unless (samplesOk xs (a .held)) Stored)
 
+unfoldable pub storedOutcome : Sizes → Bool → Samples → List ℕ → Outcome
+storedOutcome a long xs t = andThen (lentOutcome a long) (unless (storedOk a xs t) Stored)
+
 unfoldable pub traceOutcome : Sizes → Samples → List ℕ → Outcome
-traceOutcome a xs t =
-    andThen (lentOutcome a (samplesLent (a .capacity) (lengths xs) && tableLent a (length t))) (unless (storedOk a xs t) Stored)
+traceOutcome a xs t = storedOutcome a (samplesLent (a .capacity) (lengths xs) && tableLent a (length t)) xs t
 
 -- 8 of a stretch and a level
 unfoldable pub stretchOk : Sizes → ℕ → ℕ → ℕ → Bool
@@ -76,8 +78,8 @@ askOutcome a xs k i j = andThen (samplesOutcome a xs) (unless (stretchOk a k i j
 -- the rank buffer, by its length, has n bytes
 unfoldable pub readOutcome : Sizes → Samples → List ℕ → ℕ → Outcome
 readOutcome a xs t bytes =
-    andThen (lentOutcome a ((samplesLent (a .capacity) (lengths xs) && tableLent a (length t)) && leb (a .held) bytes))
-    (andThen (unless (storedOk a xs t) Stored) (unless (leb 2 (a .held)) Few))
+    andThen (storedOutcome a ((samplesLent (a .capacity) (lengths xs) && tableLent a (length t)) && leb (a .held) bytes) xs t)
+    (unless (leb 2 (a .held)) Few)
 
 -- what holds once 1 to 5 have passed, of the setup and the samples
 pub record Passed (a : Sizes) (xs : Samples) : Type 0 where

@@ -1,9 +1,11 @@
 // The refusal rows of the calls on a trace, and their loops: for every crate that refuses as put, ask or read does.
 ghost use mathlib.Core.Path.{_≡_};
+ghost use mathlib.Core.Bool.{true};
 ghost use Prim.Native.Nat.{_*_, _≤_};
 ghost use lib.ListN.{length};
 ghost use Rattle.sample.specs.Samples.{samples};
-ghost use Rattle.checks.specs.Rows.{lengths, samplesLent, tableLent, lentOutcome, storedOk, stretchOk, listsOk, samplesOutcome, traceOutcome, placeOutcome, sampleOutcome, uploadOutcome, askOutcome, readOutcome};
+ghost use Rattle.checks.specs.Numbers.{LentSamples, LentTable};
+ghost use Rattle.checks.specs.Rows.{lengths, samplesLent, tableLent, lentOutcome, storedOk, storedOutcome, stretchOk, listsOk, samplesOutcome, traceOutcome, placeOutcome, sampleOutcome, uploadOutcome, askOutcome, readOutcome};
 use refusal::Outcome;
 use refusal::Refusal;
 use refusal::and_then;
@@ -105,17 +107,32 @@ pub fn samples_outcome(s: Sizes, xs: &[i16], ys: &[i16], marks: &[u8]) -> Outcom
     unless(sample::samples_ok(xs, ys, marks, s.held), Refusal::Stored)
 }
 
-// Of one that is lent a table too.
-pub fn trace_outcome(s: Sizes, xs: &[i16], ys: &[i16], marks: &[u8], table: &[u16]) -> Outcome
-    ensures { λ r. ⌜ r ≡ traceOutcome s (samples (now (xs .entry)) (now (ys .entry)) (now (marks .entry))) (now (table .entry)) ⌝ }
+// Of one that is lent a table too, by whether all that it is lent is long enough; if so, the samples and the table are.
+fn stored_outcome(
+    s: Sizes,
+    long: bool,
+    xs: &[i16],
+    ys: &[i16],
+    marks: &[u8],
+    table: &[u16],
+) -> Outcome
+    requires { ⌜ (long ≡ true → LentSamples s (samples (now xs) (now ys) (now marks)) × LentTable s (now table)) ⌝ }
+    ensures { λ r. ⌜ r ≡ storedOutcome s long (samples (now (xs .entry)) (now (ys .entry)) (now (marks .entry))) (now (table .entry)) ⌝ }
 {
-    let places = samples_lent(s.capacity, lengths_of(xs, ys, marks));
-    let long = places & table_lent(s, table.len());
     let o = lent_outcome(s, long);
     let Outcome::Done = o else {
         return o;
     };
     unless(stored_ok(s, xs, ys, marks, table), Refusal::Stored)
+}
+
+// Of one that is lent no more.
+pub fn trace_outcome(s: Sizes, xs: &[i16], ys: &[i16], marks: &[u8], table: &[u16]) -> Outcome
+    ensures { λ r. ⌜ r ≡ traceOutcome s (samples (now (xs .entry)) (now (ys .entry)) (now (marks .entry))) (now (table .entry)) ⌝ }
+{
+    let places = samples_lent(s.capacity, lengths_of(xs, ys, marks));
+    let long = places & table_lent(s, table.len());
+    stored_outcome(s, long, xs, ys, marks, table)
 }
 
 // Refusals 7 and 8 of a place: the next one needs room, and there is none past it.
@@ -188,11 +205,7 @@ pub fn read_outcome(
 {
     let places = samples_lent(s.capacity, lengths_of(xs, ys, marks));
     let long = places & table_lent(s, table.len()) & (s.held <= bytes);
-    let o = lent_outcome(s, long);
-    let Outcome::Done = o else {
-        return o;
-    };
-    let stored = unless(stored_ok(s, xs, ys, marks, table), Refusal::Stored);
+    let o = stored_outcome(s, long, xs, ys, marks, table);
     let enough = unless(2 <= s.held, Refusal::Few);
-    and_then(stored, enough)
+    and_then(o, enough)
 }
