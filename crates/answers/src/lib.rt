@@ -1,5 +1,6 @@
 // answers: the line of each call's answer, for the test programs. A line that a digest ends is said up to it; the program says
 // the digest and the end.
+#![tactic(auto)]
 use record::Decoded;
 use refusal::Outcome;
 use script::say;

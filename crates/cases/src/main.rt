@@ -1,4 +1,5 @@
 // cases: the requirements' hand-checked cases, run through the public calls and printed one to a line.
+#![tactic(auto)]
 ghost use Rattle.std.specs.Prelude.{◌≤◌};
 
 use refusal::Outcome;

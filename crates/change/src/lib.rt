@@ -1,4 +1,5 @@
 // One sample made another, with the cells of the stretches with it.
+#![tactic(auto)]
 ghost use Rattle.sample.specs.Samples.{samples};
 ghost use Rattle.change.specs.Change.{Ready, Changes};
 

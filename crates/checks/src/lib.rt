@@ -1,4 +1,5 @@
 // The refusal rows of the calls on a trace, and their loops: for every crate that refuses as put, ask or read does.
+#![tactic(auto)]
 ghost use Rattle.std.specs.Prelude.{◌≡◌, true, ◌*◌, ◌≤◌, length};
 ghost use Rattle.sample.specs.Samples.{samples};
 ghost use Rattle.checks.specs.Numbers.{LentSamples, LentTable};
@@ -9,7 +10,7 @@ use sample::Sample;
 use sizes::{Sizes, setup_outcome};
 
 // How long three buffers of samples are: those lent, or the lists of an upload.
-#[derive(Drop)]
+#[derive(Clone, Copy)]
 pub struct Lengths {
     pub across: usize,
     pub up: usize,

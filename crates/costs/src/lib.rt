@@ -1,4 +1,5 @@
 // The one walk that rewrites the cells of the stretches with a sample, after it is added or corrected.
+#![tactic(auto)]
 ghost use Rattle.std.specs.Prelude.{◌≡◌, ℕ, suc, ◌+◌, ◌-◌, ◌*◌, ◌≤◌, ◌<◌, min, length, get_or};
 ghost use Rattle.sample.specs.Samples.{samples};
 ghost use Rattle.sample.specs.Sweep.{Ranged};

@@ -1,4 +1,5 @@
 // dayline: a day's records from standard input, its levels and its pauses to standard output.
+#![tactic(auto)]
 use libc::{STDIN_FILENO, STDOUT_FILENO};
 
 fn main() {

@@ -1,4 +1,5 @@
 // days: what dayline prints of each day of a list. A day is its length in bytes, four bytes low first, and its records.
+#![tactic(auto)]
 ghost use Rattle.std.specs.Prelude.{◌≤◌, length};
 
 use libc::{STDIN_FILENO, STDOUT_FILENO};

@@ -1,4 +1,5 @@
 // Whether a stretch of samples may be drawn as one segment, in whole numbers.
+#![tactic(auto)]
 ghost use Rattle.std.specs.Prelude.{◌≡◌, ◌+◌, ◌≤◌, ◌<◌, pos, nat_abs, length, get_or};
 ghost use Rattle.refusal.specs.Check.{Decides};
 ghost use Rattle.algebra.specs.Parts.{sq};
@@ -27,7 +28,7 @@ fn squared(dx: i64, dy: i64) -> u64
 }
 
 // Where on a segment the point nearest to a sample lies: the three cases are drawn in specs/Nearest.antt.
-#[derive(Drop)]
+#[derive(Clone, Copy)]
 enum Nearest {
     Beginning,
     End,
@@ -35,7 +36,7 @@ enum Nearest {
 }
 
 // A fraction of two whole numbers, top / bottom.
-#[derive(Drop)]
+#[derive(Clone, Copy)]
 struct Fraction {
     top: u64,
     bottom: u64,
@@ -90,7 +91,7 @@ fn near(dx: i64, dy: i64, length: u64, px: i64, py: i64, reach: u64) -> bool
 }
 
 // A verdict on samples: yes, or no with the lowest that spoils.
-#[derive(Drop)]
+#[derive(Clone, Copy)]
 pub enum Verdict {
     Yes,
     No(usize),

@@ -1,1 +1,2 @@
 // Theory only: any sequence of calls on a trace. specs/ has the definitions, proofs/ the theorems.
+#![tactic(auto)]

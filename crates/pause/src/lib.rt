@@ -1,4 +1,5 @@
 // A file of house records: the day's pause line, and the marks and samples of its records.
+#![tactic(auto)]
 ghost use Rattle.std.specs.Prelude.{◌≡◌, ◌+◌, ◌*◌, ◌≤◌, length};
 ghost use Rattle.pause.specs.Pause.{file_length_ok, record_bytes, records_outcome, file_outcome, increase, increase_at, pause_sum, pause_line_of};
 ghost use Rattle.pause.specs.Restart.{restarted as restartedAt, mark_of, sample_of};
@@ -12,7 +13,7 @@ use words::word_at;
 pub const RECORDS_MOST: usize = 4096;
 
 // The pause line in milliseconds; on refusal the sum is zero.
-#[derive(Drop)]
+#[derive(Clone, Copy)]
 pub struct PauseLine {
     pub outcome: Outcome,
     pub sum: u64,

@@ -1,4 +1,5 @@
 // The read-out: the ranks that a table of costs gives, and the segments counted from ranks.
+#![tactic(auto)]
 ghost use Rattle.std.specs.Prelude.{◌≡◌, ℕ, ◌+◌, ◌-◌, ◌*◌, ◌≤◌, ◌<◌, length, get_or};
 ghost use Rattle.family.specs.Family.{segments};
 ghost use Rattle.table.specs.Table.{cell};
@@ -89,7 +90,7 @@ fn lay_all(table: &[u16], ranks: &mut [u8], cap: usize, m: usize, n: usize)
 }
 
 // The segments of each level, and their total.
-#[derive(Drop)]
+#[derive(Clone, Copy)]
 pub struct Segments {
     pub per: [u16; 16],
     pub total: u32,

@@ -1,4 +1,5 @@
 // The house record: 16 bytes, low byte first.
+#![tactic(auto)]
 ghost use Rattle.std.specs.Prelude.{◌≡◌, ◌+◌, ◌≤◌, ◌<◌, length};
 ghost use Rattle.sample.specs.Coordinate.{coordinate_ok};
 ghost use Rattle.words.specs.Word.{signed_at};
@@ -33,7 +34,7 @@ const SPARE: usize = 12;
 const SPARE_BYTES: usize = 4;
 
 // What one house record says; on refusal every field is zero.
-#[derive(Drop)]
+#[derive(Clone, Copy)]
 pub struct Decoded {
     pub outcome: Outcome,
     pub across: i16,

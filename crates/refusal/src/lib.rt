@@ -1,10 +1,12 @@
 // Why a call was refused, and the paper's number of each answer.
+#![tactic(auto)]
+
 ghost use Rattle.std.specs.Prelude.{◌≡◌};
 ghost use Rattle.refusal.specs.Number.{code};
-ghost use Rattle.refusal.specs.Check.{unless as unlessOf, and_then};
+ghost use Rattle.refusal.specs.Check.{unless as unless_of, and_then};
 
 // In the order of the paper's numbers 1 to 11.
-#[derive(Drop)]
+#[derive(Clone, Copy)]
 pub enum Refusal {
     Setup,
     Tolerance,
@@ -19,7 +21,7 @@ pub enum Refusal {
     Record,
 }
 
-#[derive(Drop)]
+#[derive(Clone, Copy)]
 pub enum Outcome {
     Done,
     Refused(Refusal),
@@ -49,7 +51,7 @@ pub fn number(o: Outcome) -> u8
 
 // One test of a row: refused unless it holds.
 pub fn unless(ok: bool, why: Refusal) -> Outcome
-    ensures { result ≡ unlessOf ok why }
+    ensures { result ≡ unless_of ok why }
 {
     if ok {
         Outcome::Done

@@ -1,5 +1,6 @@
 // replay: runs a script of calls, and prints each answer with a digest of every lent buffer. Standard input is commands of 80
 // bytes (README.md has the format).
+#![tactic(auto)]
 mod calls;
 mod state;
 

@@ -1,4 +1,5 @@
 // What a sample is: its coordinates and its mark, their ranges, and the sweeps over the marks of a trace.
+#![tactic(auto)]
 ghost use Rattle.std.specs.Prelude.{◌≡◌, ◌≤◌, ◌<◌, length};
 ghost use Rattle.sample.specs.Coordinate.{coordinate_ok, coordinates_ok};
 ghost use Rattle.sample.specs.Mark.{mark_ok, marks_ok};
@@ -15,7 +16,7 @@ pub const COORDINATE_MOST: i16 = 16384;
 pub const MARKED: u8 = 1;
 
 // Whole steps across and up, and the mark.
-#[derive(Drop)]
+#[derive(Clone, Copy)]
 pub struct Sample {
     pub across: i16,
     pub up: i16,

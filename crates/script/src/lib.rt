@@ -2,6 +2,7 @@
 // value), pokes, fills, digests, and the pieces of a line. A program over it has a small function for each operation: it takes
 // the words of the command, makes the call and says the answer (crate answers). A line is written where it is made, so nothing
 // here takes a buffer of text. Only safety is proved.
+#![tactic(auto)]
 pub mod command;
 pub mod digest;
 pub mod lent;

@@ -1,4 +1,5 @@
 // How large a trace is, by value: levels, capacity, samples held and tolerances; their ranges, and refusals 1 and 2.
+#![tactic(auto)]
 ghost use Rattle.std.specs.Prelude.{◌≡◌, ◌≤◌};
 ghost use Rattle.sizes.specs.Setup.{kept, held_with};
 ghost use Rattle.sizes.specs.Rows.{setup_ok, tolerances_ok, setup_outcome};
@@ -6,7 +7,7 @@ ghost use Rattle.sizes.specs.Rows.{setup_ok, tolerances_ok, setup_outcome};
 use refusal::{Outcome, Refusal, unless};
 
 // Levels m, capacity N, samples held n, and the tolerances of levels 1 to m; those past m are never read.
-#[derive(Drop)]
+#[derive(Clone, Copy)]
 pub struct Sizes {
     pub levels: usize,
     pub capacity: usize,

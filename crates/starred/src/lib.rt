@@ -1,1 +1,2 @@
 // Theory only: the starred cases of the requirements, one table in specs/ and one proof in proofs/.
+#![tactic(auto)]

@@ -1,4 +1,5 @@
 // The table of costs: where a cell stands, check 5 of the cells that a trace holds, and the chosen step of a path over one level's cells.
+#![tactic(auto)]
 ghost use Rattle.std.specs.Prelude.{◌≡◌, ◌&&◌, ℕ, ◌+◌, ◌*◌, ◌≤◌, ◌<◌, min, length, get_or};
 ghost use Rattle.table.specs.Table.{at, cell};
 ghost use Rattle.table.specs.Path.{SumAt, Stopped};
@@ -123,7 +124,7 @@ pub fn least_sum(table: &[u16], sums: &[u32; 256], cap: usize, k: usize, p: usiz
 }
 
 // The least sum of a path, and where it goes first.
-#[derive(Drop)]
+#[derive(Clone, Copy)]
 pub struct Stop {
     pub sum: u32,
     pub to: usize,

@@ -1,4 +1,5 @@
 // A trace's setup, and the public calls on a trace: each checks its row of refusals, then acts.
+#![tactic(auto)]
 ghost use Rattle.std.specs.Prelude.{◌≡◌, ◌<◌, length};
 ghost use Rattle.sample.specs.Samples.{samples};
 ghost use Rattle.checks.specs.Numbers.{OneLength};
@@ -12,7 +13,7 @@ use sample::Sample;
 use sizes::Sizes;
 
 // A trace's setup: levels m, capacity N, samples held n, and the tolerances of levels 1 to m; those past m are never read.
-#[derive(Drop)]
+#[derive(Clone, Copy)]
 pub struct Trace {
     pub levels: usize,
     pub capacity: usize,
@@ -21,14 +22,14 @@ pub struct Trace {
 }
 
 // What start gives: an empty trace; refused, a trace of no levels and no capacity.
-#[derive(Drop)]
+#[derive(Clone, Copy)]
 pub struct Started {
     pub outcome: Outcome,
     pub trace: Trace,
 }
 
 // What put gives: the next trace and the count of cells written; refused, the trace given and 0.
-#[derive(Drop)]
+#[derive(Clone, Copy)]
 pub struct Changed {
     pub outcome: Outcome,
     pub trace: Trace,
@@ -36,14 +37,14 @@ pub struct Changed {
 }
 
 // Why an upload stopped: all its samples were taken, or the first that was not was refused so.
-#[derive(Drop)]
+#[derive(Clone, Copy)]
 pub enum Stop {
     AllTaken,
     Refused(Refusal),
 }
 
 // What upload gives: why it stopped, the trace then, how many samples were added, and the count of cells written.
-#[derive(Drop)]
+#[derive(Clone, Copy)]
 pub struct Uploaded {
     pub stop: Stop,
     pub trace: Trace,
@@ -52,7 +53,7 @@ pub struct Uploaded {
 }
 
 // Whether a stretch is permitted: yes, or no with the lowest sample that is marked or lies too far away.
-#[derive(Drop)]
+#[derive(Clone, Copy)]
 pub enum Asked {
     Yes,
     No(usize),
@@ -60,7 +61,7 @@ pub enum Asked {
 }
 
 // What read gives: the segments of each level, zero past m, and their total; refused, zeros.
-#[derive(Drop)]
+#[derive(Clone, Copy)]
 pub struct Levels {
     pub outcome: Outcome,
     pub segments: [u16; 16],
