@@ -36,4 +36,4 @@ fewer_ranged h r = record { across = fewer h r.across; up = fewer h r.up }
 
 -- a coordinate that was handed on by its bits is tested as itself
 pub coordinate_back : {b : Bool} (z : ℤ) → mag z < 32768 → b ≡ coordinate_ok (to_z w16 (of_z w16 z)) → coordinate_ok z ≡ b
-coordinate_back z f h = ap coordinate_ok (sym (to_z-of_z (record { sfits = f }))) ∙ sym h
+coordinate_back z f h = ap coordinate_ok (sym (to_z-of_z {w = w16} (record { sfits = f }))) ∙ sym h

@@ -1,5 +1,6 @@
 // What a sample is: its coordinates and its mark, their ranges, and the sweeps over the marks of a trace.
 #![tactic(auto)]
+
 ghost use Rattle.std.specs.Prelude.{◌≡◌, ◌≤◌, ◌<◌, length};
 ghost use Rattle.sample.specs.Coordinate.{coordinate_ok, coordinates_ok};
 ghost use Rattle.sample.specs.Mark.{mark_ok, marks_ok};
