@@ -24,4 +24,4 @@ signed_high u h = to_z-of_z (signed_fits u h) ∙ less (65535 - u) (omega arith)
 
 -- a signed number that was handed on by its bits is read back
 pub back : {z v : ℤ} → z ≡ v → mag z < 32768 → to_z w16 (of_z w16 z) ≡ v
-back e f = to_z-of_z (record { sfits = f }) ∙ e
+back e f = to_z-of_z {w = w16} (record { sfits = f }) ∙ e

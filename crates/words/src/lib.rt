@@ -1,5 +1,6 @@
 // Whole numbers of several bytes in a buffer, low byte first.
 #![tactic(auto)]
+
 ghost use Rattle.std.specs.Prelude.{◌≡◌, ◌+◌, ◌<◌, length};
 ghost use Rattle.words.specs.Word.{word, long, signed, signed_at};
 
