@@ -9,7 +9,7 @@ use native.Mathlib.Omega.{arith}
 use Rattle.family.specs.Levels.{Chain, end, link, Family}
 
 -- the chain goes past it by no step
-chain_holds : {P : ℕ → ℕ → Type 0} {i j : ℕ} {l : List ℕ} (q : ℕ) → ((x y : ℕ) → x < q → q < y → P x y → ⊥) → Chain P j i l → i ≤ q → q ≤ j → In q l
+chain_holds : {P : ℕ → ℕ → Type 0} {j i : ℕ} {l : List ℕ} (q : ℕ) → ((x y : ℕ) → x < q → q < y → P x y → ⊥) → Chain P j i l → i ≤ q → q ≤ j → In q l
 chain_holds {i = i} q past end a b = let e : q ≡ i = omega arith in here e
 chain_holds {i = i} q past (link {x = x} o p C) a b = elim (ℕ_discrete q i) [
   | yes e ↦ here e

@@ -45,7 +45,7 @@ abbrev pub back : ℤ → ℤ
 back z = to_z w64 (of_z w64 z)
 
 pub handed : (z : ℤ) → mag z < 9223372036854775808 → back z ≡ z
-handed z h = to_z-of_z (record { sfits = h })
+handed z h = to_z-of_z {w = w64} (record { sfits = h })
 
 -- a sum of two squares, each step of it handed on so
 module _ (x y : ℤ) (h : nat_abs x ≤ 65536) (g : nat_abs y ≤ 65536) where

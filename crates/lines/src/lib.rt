@@ -1,5 +1,6 @@
 // The lines of a day's text: of a refusal, of the counts, of the samples with their ranks, of the segments and of the pauses.
 #![tactic(auto)]
+
 ghost use Rattle.std.specs.Prelude.{◌∷◌, ◌≤◌, length, get_or};
 ghost use Rattle.refusal.specs.Number.{code};
 ghost use Rattle.text.specs.Text.{Written, signed_decimal};

@@ -1,5 +1,6 @@
 // Which levels permit a stretch: the finest of each stretch to one end.
 #![tactic(auto)]
+
 ghost use Rattle.std.specs.Prelude.{ℕ, ◌+◌, ◌≤◌, ◌<◌, length, get_or};
 ghost use Rattle.sample.specs.Coordinate.{InRange};
 ghost use Rattle.sample.specs.Samples.{samples};

@@ -1,5 +1,6 @@
 // How large a trace is, by value: levels, capacity, samples held and tolerances; their ranges, and refusals 1 and 2.
 #![tactic(auto)]
+
 ghost use Rattle.std.specs.Prelude.{◌≡◌, ◌≤◌};
 ghost use Rattle.sizes.specs.Setup.{kept, held_with};
 ghost use Rattle.sizes.specs.Rows.{setup_ok, tolerances_ok, setup_outcome};

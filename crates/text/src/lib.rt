@@ -1,5 +1,6 @@
 // Text into a lent buffer: bytes and decimal numbers, one after the other, cut where the buffer ends.
 #![tactic(auto)]
+
 ghost use Rattle.std.specs.Prelude.{◌≡◌, [], ◌∷◌, ◌++◌, ◌≤◌, nat_abs, length};
 ghost use Rattle.text.specs.Text.{Written, decimal, signed_decimal};
 
