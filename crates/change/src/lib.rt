@@ -1,5 +1,6 @@
 // One sample made another, with the cells of the stretches with it.
 #![tactic(auto)]
+
 ghost use Rattle.sample.specs.Samples.{samples};
 ghost use Rattle.change.specs.Change.{Ready, Changes};
 

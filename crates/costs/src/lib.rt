@@ -1,5 +1,6 @@
 // The one walk that rewrites the cells of the stretches with a sample, after it is added or corrected.
 #![tactic(auto)]
+
 ghost use Rattle.std.specs.Prelude.{◌≡◌, ℕ, suc, ◌+◌, ◌-◌, ◌*◌, ◌≤◌, ◌<◌, min, length, get_or};
 ghost use Rattle.sample.specs.Samples.{samples};
 ghost use Rattle.sample.specs.Sweep.{Ranged};
@@ -8,7 +9,7 @@ ghost use Rattle.table.specs.Table.{cell, Wrote};
 ghost use Rattle.table.specs.Path.{SumAt};
 ghost use Rattle.costs.specs.Costs.{Named, named};
 ghost use Rattle.permission.specs.Finest.{perm, Rising};
-ghost use Rattle.costs.specs.Walk.{LowSteps, Rewritten, Row, Rows, from_finest, price as priceOf, Settled};
+ghost use Rattle.costs.specs.Walk.{LowSteps, Rewritten, Row, Rows, from_finest, price as price_of, Settled};
 
 use sizes::Sizes;
 
@@ -43,7 +44,7 @@ fn rests(table: &[u16], cap: usize, k: usize, j: usize) -> [u32; 256]
 // What the cell of a stretch is to hold at level k.
 fn price(k: usize, finest: usize, rest: u32) -> u16
     requires { rest ≤ 65534 }
-    ensures { result ≡ priceOf k finest rest }
+    ensures { result ≡ price_of k finest rest }
 {
     if finest <= k {
         return (rest + 1) as u16;
@@ -65,7 +66,7 @@ fn write_row(
     requires cap_in_bounds { k * (cap * cap) ≤ length table.old }
     requires by_index { (i : ℕ) → i < top → get_or sums.now i 0 ≤ 65534 }
     ensures value { result ≡ top }
-    ensures wrote { Wrote cap (Row k j top) (λ k' i j'. priceOf k' (get_or finest.now i 0) (get_or sums.now i 0)) table.old table.new }
+    ensures wrote { Wrote cap (Row k j top) (λ k' i j'. price_of k' (get_or finest.now i 0) (get_or sums.now i 0)) table.old table.new }
 {
     let mut count = 0;
     let mut i = 0;

@@ -1,5 +1,6 @@
 // A file of house records: the day's pause line, and the marks and samples of its records.
 #![tactic(auto)]
+
 ghost use Rattle.std.specs.Prelude.{◌≡◌, ◌+◌, ◌*◌, ◌≤◌, length};
 ghost use Rattle.pause.specs.Pause.{file_length_ok, record_bytes, records_outcome, file_outcome, increase, increase_at, pause_sum, pause_line_of};
 ghost use Rattle.pause.specs.Restart.{restarted as restartedAt, mark_of, sample_of};

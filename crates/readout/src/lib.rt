@@ -1,5 +1,6 @@
 // The read-out: the ranks that a table of costs gives, and the segments counted from ranks.
 #![tactic(auto)]
+
 ghost use Rattle.std.specs.Prelude.{◌≡◌, ℕ, ◌+◌, ◌-◌, ◌*◌, ◌≤◌, ◌<◌, length, get_or};
 ghost use Rattle.family.specs.Family.{segments};
 ghost use Rattle.table.specs.Table.{cell};

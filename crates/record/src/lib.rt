@@ -1,5 +1,6 @@
 // The house record: 16 bytes, low byte first.
 #![tactic(auto)]
+
 ghost use Rattle.std.specs.Prelude.{◌≡◌, ◌+◌, ◌≤◌, ◌<◌, length};
 ghost use Rattle.sample.specs.Coordinate.{coordinate_ok};
 ghost use Rattle.words.specs.Word.{signed_at};

@@ -1,5 +1,6 @@
 // The table of costs: where a cell stands, check 5 of the cells that a trace holds, and the chosen step of a path over one level's cells.
 #![tactic(auto)]
+
 ghost use Rattle.std.specs.Prelude.{◌≡◌, ◌&&◌, ℕ, ◌+◌, ◌*◌, ◌≤◌, ◌<◌, min, length, get_or};
 ghost use Rattle.table.specs.Table.{at, cell};
 ghost use Rattle.table.specs.Path.{SumAt, Stopped};
