@@ -1,13 +1,14 @@
 // A command: 80 bytes, twenty words of 32 bits, low byte first. Word 0 is the operation, the others are nineteen signed numbers.
 ghost use Rattle.std.specs.Prelude.{◌<◌};
 
-use libc::STDIN_FILENO;
 use sample::Sample;
+use std::io;
+use std::io::{Read, Write};
 
 // The bytes of a command.
 pub const LENGTH: usize = 80;
 
-#[derive(Drop)]
+#[derive(Clone, Copy)]
 pub struct Command {
     pub bytes: [u8; LENGTH],
 }
@@ -32,16 +33,20 @@ pub fn byte(word: u32) -> u8 {
     low as u8
 }
 
-// Read a command from standard input; whether there is a whole one. A part of one has the line of a command that is none.
-pub fn next(bytes: &mut [u8; LENGTH]) -> bool {
-    let got = io::read_full(STDIN_FILENO, bytes);
+// Read a command; whether there is a whole one. A part of one has the line of a command that is none.
+pub fn next<R: Read, W: Write>(
+    input: &mut R,
+    out: &mut W,
+    bytes: &mut [u8; LENGTH],
+) -> io::Result<bool> {
+    let got = input::read_full(input, bytes)?;
     if got == LENGTH {
-        return true;
+        return Ok(true);
     }
     if 0 < got {
-        crate::say::unknown();
+        crate::say::unknown(out)?;
     }
-    false
+    Ok(false)
 }
 
 impl Command {

@@ -4,8 +4,10 @@ ghost use Rattle.std.specs.Prelude.{◌≤◌};
 use crate::command::Command;
 use crate::part::{Bytes, Shorts};
 use crate::{digest, part, say};
+use std::io;
+use std::io::Write;
 
-#[derive(Drop)]
+#[derive(Clone, Copy)]
 pub struct Lent {
     pub xs: Shorts,
     pub ys: Shorts,
@@ -15,7 +17,7 @@ pub struct Lent {
 }
 
 // How much is lent of each, within the room that there is.
-#[derive(Drop)]
+#[derive(Clone, Copy)]
 pub struct Lengths {
     pub xs: usize,
     pub ys: usize,
@@ -92,72 +94,92 @@ fn filled(lx: usize, ly: usize, lt: usize, lr: usize, lm: usize) -> Lent {
 }
 
 // bufs LX LY LT LR LM: lend so much of each buffer, and fill it.
-fn bufs(command: Command, lent: Lent, cells: &mut [u16]) -> Lent {
+fn bufs<W: Write>(
+    out: &mut W,
+    command: Command,
+    lent: Lent,
+    cells: &mut [u16],
+) -> io::Result<Lent> {
     let lx = command.count(1);
     let ly = command.count(2);
     let lt = command.count(3);
     let lr = command.count(4);
     let lm = command.count(5);
     if !(has_room(lx, ly) && has_room(lr, lm) && lt <= cells.len()) {
-        say::unknown();
-        return lent;
+        say::unknown(out)?;
+        return Ok(lent);
     }
     part::rise(cells, lt, 7, 40503);
-    filled(lx, ly, lt, lr, lm)
+    Ok(filled(lx, ly, lt, lr, lm))
 }
 
 // A value put into across (w = 0), up (1), ranks (3) or marks (4).
-fn poked(lent: Lent, w: u32, p: usize, v: u32) -> Lent {
+fn poked<W: Write>(out: &mut W, lent: Lent, w: u32, p: usize, v: u32) -> io::Result<Lent> {
     let mut xs = lent.xs;
     let mut ys = lent.ys;
     let mut marks = lent.marks;
     let mut ranks = lent.ranks;
     if w == 0 {
-        xs = part::set_short(xs, p, xs.n, v);
+        xs = part::set_short(out, xs, p, xs.n, v)?;
     } else if w == 1 {
-        ys = part::set_short(ys, p, ys.n, v);
+        ys = part::set_short(out, ys, p, ys.n, v)?;
     } else if w == 3 {
-        ranks = part::set_byte(ranks, p, ranks.n, v);
+        ranks = part::set_byte(out, ranks, p, ranks.n, v)?;
     } else if w == 4 {
-        marks = part::set_byte(marks, p, marks.n, v);
+        marks = part::set_byte(out, marks, p, marks.n, v)?;
     } else {
-        say::unknown();
+        say::unknown(out)?;
     }
-    Lent {
+    Ok(Lent {
         xs,
         ys,
         marks,
         ranks,
         cells: lent.cells,
-    }
+    })
 }
 
 // poke w p v: the same, and w = 2 a cell.
-fn poke(command: Command, lent: Lent, cells: &mut [u16]) -> Lent {
+fn poke<W: Write>(
+    out: &mut W,
+    command: Command,
+    lent: Lent,
+    cells: &mut [u16],
+) -> io::Result<Lent> {
     let w = command.word(1);
     let p = command.count(2);
     let v = command.word(3);
     if w == 2 {
-        part::poke_cell(cells, lent.cells, p, v);
-        return lent;
+        part::poke_cell(out, cells, lent.cells, p, v)?;
+        return Ok(lent);
     }
-    poked(lent, w, p, v)
+    poked(out, lent, w, p, v)
 }
 
 // What is lent after a command: bufs is operation 0, poke 2, and no other changes it.
-pub fn after(command: Command, lent: Lent, cells: &mut [u16]) -> Lent {
+pub fn after<W: Write>(
+    out: &mut W,
+    command: Command,
+    lent: Lent,
+    cells: &mut [u16],
+) -> io::Result<Lent> {
     let operation = command.word(0);
     if operation == 0 {
-        return bufs(command, lent, cells);
+        return bufs(out, command, lent, cells);
     }
     if operation == 2 {
-        return poke(command, lent, cells);
+        return poke(out, command, lent, cells);
     }
-    lent
+    Ok(lent)
 }
 
 // The digest of across, up, cells, ranks and marks, as the last number of a line.
-pub fn say_digest(steps: &[u32; 256], lent: Lent, cells: &[u16]) {
+pub fn say_digest<W: Write>(
+    out: &mut W,
+    steps: &[u32; 256],
+    lent: Lent,
+    cells: &[u16],
+) -> io::Result<()> {
     let xs = lent.xs;
     let ys = lent.ys;
     let marks = lent.marks;
@@ -167,6 +189,6 @@ pub fn say_digest(steps: &[u32; 256], lent: Lent, cells: &[u16]) {
     let c = digest::of_cells(steps, c, cells, lent.cells);
     let c = digest::of_bytes(steps, c, ranks);
     let c = digest::of_bytes(steps, c, marks);
-    say::number(digest::ended(c) as u64);
-    say::end();
+    say::number(out, digest::ended(c) as u64)?;
+    say::end(out)
 }

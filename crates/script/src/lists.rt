@@ -4,8 +4,10 @@ ghost use Rattle.std.specs.Prelude.{◌≤◌};
 use crate::command::Command;
 use crate::part::{Bytes, Shorts};
 use crate::{part, say};
+use std::io;
+use std::io::Write;
 
-#[derive(Drop)]
+#[derive(Clone, Copy)]
 pub struct Lists {
     pub across: Shorts,
     pub up: Shorts,
@@ -13,7 +15,7 @@ pub struct Lists {
 }
 
 // How many values each list has, within the room.
-#[derive(Drop)]
+#[derive(Clone, Copy)]
 pub struct Counts {
     pub across: usize,
     pub up: usize,
@@ -46,36 +48,36 @@ pub fn empty() -> Lists {
 }
 
 // list w v: append a value to the list w = 0 across, 1 up, 2 marks.
-fn list(command: Command, lists: Lists) -> Lists {
+fn list<W: Write>(out: &mut W, command: Command, lists: Lists) -> io::Result<Lists> {
     let w = command.word(1);
     let v = command.word(2);
     let mut across = lists.across;
     let mut up = lists.up;
     let mut restarts = lists.restarts;
     if w == 0 {
-        across = part::set_short(across, across.n, part::ROOM, v);
+        across = part::set_short(out, across, across.n, part::ROOM, v)?;
     } else if w == 1 {
-        up = part::set_short(up, up.n, part::ROOM, v);
+        up = part::set_short(out, up, up.n, part::ROOM, v)?;
     } else if w == 2 {
-        restarts = part::set_byte(restarts, restarts.n, part::ROOM, v);
+        restarts = part::set_byte(out, restarts, restarts.n, part::ROOM, v)?;
     } else {
-        say::unknown();
+        say::unknown(out)?;
     }
-    Lists {
+    Ok(Lists {
         across,
         up,
         restarts,
-    }
+    })
 }
 
 // The lists after a command: list is operation 10, empty 11, and no other changes them.
-pub fn after(command: Command, lists: Lists) -> Lists {
+pub fn after<W: Write>(out: &mut W, command: Command, lists: Lists) -> io::Result<Lists> {
     let operation = command.word(0);
     if operation == 10 {
-        return list(command, lists);
+        return list(out, command, lists);
     }
     if operation == 11 {
-        return empty();
+        return Ok(empty());
     }
-    lists
+    Ok(lists)
 }

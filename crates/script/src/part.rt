@@ -2,17 +2,19 @@
 ghost use Rattle.std.specs.Prelude.{◌≡◌, ◌≤◌, length};
 
 use crate::{command, say};
+use std::io;
+use std::io::Write;
 
 // Room for the values of each.
 pub const ROOM: usize = 320;
 
-#[derive(Drop)]
+#[derive(Clone, Copy)]
 pub struct Shorts {
     pub values: [i16; ROOM],
     pub n: usize,
 }
 
-#[derive(Drop)]
+#[derive(Clone, Copy)]
 pub struct Bytes {
     pub values: [u8; ROOM],
     pub n: usize,
@@ -42,19 +44,25 @@ pub fn all_bytes(values: [u8; ROOM]) -> [u8; ROOM]
 }
 
 // Whether a place and a value may be taken; if not, the line of a command that is none.
-fn may_take(place: bool, value: bool) -> bool {
+fn may_take<W: Write>(out: &mut W, place: bool, value: bool) -> io::Result<bool> {
     if place && value {
-        return true;
+        return Ok(true);
     }
-    say::unknown();
-    false
+    say::unknown(out)?;
+    Ok(false)
 }
 
 // With a value at place p, one more in use where p is the next; as it was, with the line of a command that is none, where p is
 // not below `most` or the value is none of its type.
-pub fn set_short(s: Shorts, p: usize, most: usize, word: u32) -> Shorts {
-    if !may_take(p < most, command::is_short(word)) {
-        return s;
+pub fn set_short<W: Write>(
+    out: &mut W,
+    s: Shorts,
+    p: usize,
+    most: usize,
+    word: u32,
+) -> io::Result<Shorts> {
+    if !may_take(out, p < most, command::is_short(word))? {
+        return Ok(s);
     }
     let mut values = s.values;
     let mut n = s.n;
@@ -64,12 +72,18 @@ pub fn set_short(s: Shorts, p: usize, most: usize, word: u32) -> Shorts {
             n = p + 1;
         }
     }
-    Shorts { values, n }
+    Ok(Shorts { values, n })
 }
 
-pub fn set_byte(s: Bytes, p: usize, most: usize, word: u32) -> Bytes {
-    if !may_take(p < most, command::is_byte(word)) {
-        return s;
+pub fn set_byte<W: Write>(
+    out: &mut W,
+    s: Bytes,
+    p: usize,
+    most: usize,
+    word: u32,
+) -> io::Result<Bytes> {
+    if !may_take(out, p < most, command::is_byte(word))? {
+        return Ok(s);
     }
     let mut values = s.values;
     let mut n = s.n;
@@ -79,7 +93,7 @@ pub fn set_byte(s: Bytes, p: usize, most: usize, word: u32) -> Bytes {
             n = p + 1;
         }
     }
-    Bytes { values, n }
+    Ok(Bytes { values, n })
 }
 
 // A number of 16 bits and a step, modulo 65,536.
@@ -132,13 +146,20 @@ pub fn rise(s: &mut [u16], n: usize, start: u16, step: u32) {
 }
 
 // A value put into one of the first n cells of a table, with that line where it is not.
-pub fn poke_cell(s: &mut [u16], n: usize, p: usize, word: u32) {
+pub fn poke_cell<W: Write>(
+    out: &mut W,
+    s: &mut [u16],
+    n: usize,
+    p: usize,
+    word: u32,
+) -> io::Result<()> {
     let m = within(n, s.len());
     if m <= p {
-        return say::unknown();
+        return say::unknown(out);
     }
     if 65535 < word {
-        return say::unknown();
+        return say::unknown(out);
     }
     s[p] = word as u16;
+    Ok(())
 }

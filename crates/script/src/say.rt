@@ -1,46 +1,45 @@
-// The pieces of a line, on standard output.
-use libc::STDOUT_FILENO;
+// The pieces of a line, into a writer. A line is flushed where it ends, so each is one write where the writer has a buffer.
 use refusal::Outcome;
+use std::io;
+use std::io::Write;
 
 // Bytes as they are.
-pub fn bytes(text: &[u8]) {
-    io::write_all(STDOUT_FILENO, text);
+pub fn bytes<W: Write>(out: &mut W, text: &[u8]) -> io::Result<()> {
+    out.write_all(text)
 }
 
 // The line of a command that is none.
-pub fn unknown() {
-    bytes(b"?\n");
+pub fn unknown<W: Write>(out: &mut W) -> io::Result<()> {
+    bytes(out, b"?")?;
+    end(out)
 }
 
 // The number of an outcome.
-pub fn outcome(o: Outcome) {
-    io::print_decimal(STDOUT_FILENO, refusal::number(o) as u64);
+pub fn outcome<W: Write>(out: &mut W, o: Outcome) -> io::Result<()> {
+    let code = refusal::number(o);
+    write!(out, "{code}")
 }
 
 // A number more, after a space.
-pub fn number(n: u64) {
-    bytes(b" ");
-    io::print_decimal(STDOUT_FILENO, n);
+pub fn number<W: Write>(out: &mut W, n: u64) -> io::Result<()> {
+    write!(out, " {n}")
 }
 
 // A signed number as it is.
-pub fn signed(z: i16) {
-    if z < 0 {
-        bytes(b"-");
-    }
-    io::print_decimal(STDOUT_FILENO, text::magnitude(z));
+pub fn signed<W: Write>(out: &mut W, z: i16) -> io::Result<()> {
+    write!(out, "{z}")
 }
 
 // Sixteen numbers more.
-pub fn sixteen(numbers: [u32; 16]) {
-    let mut l = 0;
-    while l < 16 {
-        number(numbers[l] as u64);
-        l += 1;
+pub fn sixteen<W: Write>(out: &mut W, numbers: [u32; 16]) -> io::Result<()> {
+    for n in &numbers {
+        number(out, *n as u64)?;
     }
+    Ok(())
 }
 
 // The end of the line.
-pub fn end() {
-    bytes(b"\n");
+pub fn end<W: Write>(out: &mut W) -> io::Result<()> {
+    bytes(out, b"\n")?;
+    out.flush()
 }
