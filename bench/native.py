@@ -1,6 +1,6 @@
 """Our programs for this machine's processor, so that callgrind can count them.
 
-`rt check` builds programs for x86-64. On another processor callgrind cannot run those, so the LLVM module that the
+`rt run` builds programs for x86-64. On another processor callgrind cannot run those, so the LLVM module that the
 toolchain's compiler makes of a program is compiled once more, by the toolchain's clang at the same -O3, for this one.
 """
 import platform
@@ -54,7 +54,7 @@ def toolchain(folder, tools, module):
 def build(program, folder):
     """The program for this processor, in the folder."""
     if platform.machine() == "x86_64":
-        return programs.BIN / program
+        return programs.built(program)
     own, module, made = programs.kit() / "on" / platform.machine(), folder / f"{program}.bc", folder / program
     tools = toolchain(folder / f"{program}-tools", own / "toolchain", module)
     words = [f"--lib={name}={path}" for name, path in libraries(program).items()]

@@ -1,4 +1,4 @@
-"""Where the programs that `rt check` builds are, and how to run them on this machine.
+"""Where the programs that `rt run` builds are, and how to run them on this machine.
 programs.py NAME runs one, its standard input and output those of the caller."""
 
 import os
@@ -9,11 +9,14 @@ from functools import cache
 from pathlib import Path
 
 ROOT = Path(__file__).resolve().parent.parent
-BIN = ROOT / "target" / "bin"
+
+
+def built(program):
+    return ROOT / "crates" / program / "out" / program
 
 
 def missing(*programs):
-    return not all((BIN / program).is_file() for program in programs)
+    return not all(built(program).is_file() for program in programs)
 
 
 @cache
@@ -32,7 +35,7 @@ def launcher():
 
 
 def command(program):
-    return [*launcher(), BIN / program]
+    return [*launcher(), built(program)]
 
 
 if __name__ == "__main__":

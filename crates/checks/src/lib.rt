@@ -1,5 +1,6 @@
 // The refusal rows of the calls on a trace, and their loops: for every crate that refuses as put, ask or read does.
 #![tactic(auto)]
+
 ghost use Rattle.std.specs.Prelude.{◌≡◌, true, ◌*◌, ◌≤◌, length};
 ghost use Rattle.sample.specs.Samples.{samples};
 ghost use Rattle.checks.specs.Numbers.{LentSamples, LentTable};

@@ -6,10 +6,8 @@ use native.Mathlib.Nat.{mul_assoc, le-div_iff_mul-le}
 use native.Mathlib.Omega.{arith}
 use lib.Dec.{leb}
 use borrow.Author.Tests.{le-leb}
-use borrow.Author.Rules.{rules}
 use Rattle.refusal.proofs.Plain.{carry, decides_unique, by_order}
-use Rattle.checks.proofs.table_lent.Statement.{statement}
-use Rattle.checks.proofs.table_lent.Tie as tie
+use Rattle.checks.proofs.table_lent.Goals as goal
 
 quotient : (m N cells : ℕ) → 0 < N → leb m (cells / N / N) ≡ leb (m * (N * N)) cells
 quotient m N cells h =
@@ -22,17 +20,8 @@ quotient m N cells h =
 none : (m N cells : ℕ) → N ≡ 0 → leb (m * (N * N)) cells ≡ true
 none m N cells e = le-leb (m * (N * N)) cells (rw e (omega arith))
 
-returns : tie.Need-returns
-returns c = let a = c.before.args in sym (none a.s.levels a.s.capacity a.cells (omega arith))
+pub returns-then-cap-eq0 : goal.returns-then-cap-eq0
+returns-then-cap-eq0 c = let a = c.args in sym (none a.s.levels a.s.capacity a.cells (omega arith))
 
-div-result : tie.Need-nonzero-div-result
-div-result c = search rules
-
-div-result-2 : tie.Need-nonzero-div-result-2
-div-result-2 c = search rules
-
-returns-2 : tie.Need-returns-2
-returns-2 c = let a = c.before.before.args in quotient a.s.levels a.s.capacity a.cells (omega arith)
-
-pub table-lent-spec : {M : Type 1} → statement M
-table-lent-spec = tie.close (tie.spec returns div-result div-result-2 returns-2)
+pub returns : goal.returns
+returns c = let a = c.args in quotient a.s.levels a.s.capacity a.cells (omega arith)
