@@ -1,64 +1,70 @@
 // days: what dayline prints of each day of a list. A day is its length in bytes, four bytes low first, and its records.
 #![tactic(auto)]
-ghost use Rattle.std.specs.Prelude.{◌≤◌, length};
 
-use libc::{STDIN_FILENO, STDOUT_FILENO};
+ghost use Rattle.std.specs.Prelude.{◌≤◌, IfOk, length};
+
+use std::io;
+use std::io::{Read, Write};
 
 // The bytes of a day at the most.
 const DAY_MOST: usize = 65552;
 
 // Print the number of a day and its text.
-fn print_day(number: u64, file: &[u8]) {
+fn print_day<W: Write>(output: &mut W, number: u64, file: &[u8]) -> io::Result<()> {
     let mut head = [0u8; 32];
     let at = text::bytes(&mut head, 0, b"day ");
     let at = text::number(&mut head, at, number);
     let end = text::byte(&mut head, at, b'\n');
-    io::write_all(STDOUT_FILENO, &head[..end]);
+    output.write_all(&head[..end])?;
     let mut out = [0u8; day::TEXT_ROOM];
     let k = day::report(file, &mut out);
-    io::write_all(STDOUT_FILENO, &out[..k]);
+    output.write_all(&out[..k])
 }
 
 // A day that is cut short.
-fn broken() -> bool {
-    io::write_all(STDOUT_FILENO, b"?\n");
-    false
+fn broken<W: Write>(output: &mut W) -> io::Result<bool> {
+    output.write_all(b"?\n")?;
+    Ok(false)
 }
 
 // Read n bytes to the start of the buffer, none where there is no room; how many there were.
-fn read_day(day: &mut [u8], n: usize) -> usize
-    ensures { result ≤ length day.new }
+fn read_day<R: Read>(input: &mut R, day: &mut [u8], n: usize) -> io::Result<usize>
+    ensures { IfOk result (λ k. k ≤ length day.new) }
 {
     if day.len() < n {
-        return 0;
+        return Ok(0);
     }
-    io::read_full(STDIN_FILENO, &mut day[..n])
+    input::read_full(input, &mut day[..n])
 }
 
 // Read a day and print its text; whether there was one.
-fn turn(number: u64) -> bool {
+fn turn<R: Read, W: Write>(input: &mut R, output: &mut W, number: u64) -> io::Result<bool> {
     let mut bytes = [0u8; 4];
-    let got = io::read_full(STDIN_FILENO, &mut bytes);
+    let got = input::read_full(input, &mut bytes)?;
     if got == 0 {
-        return false;
+        return Ok(false);
     }
     if got < 4 {
-        return broken();
+        return broken(output);
     }
     let n = words::long_at(&bytes, 0) as usize;
     let mut day = [0u8; DAY_MOST];
-    let k = read_day(&mut day, n);
+    let k = read_day(input, &mut day, n)?;
     if k != n {
-        return broken();
+        return broken(output);
     }
-    print_day(number, &day[..k]);
-    true
+    print_day(output, number, &day[..k])?;
+    Ok(true)
 }
 
 // A proved loop has to end, so it counts up to a number that no list reaches.
-fn main() {
-    let mut number = 0;
-    while number < u64::MAX && turn(number) {
-        number += 1;
+fn main(rt: HostRuntime) -> io::Result<()> {
+    let mut input = rt.stdin();
+    let mut output = rt.stdout();
+    for number in 0..u64::MAX {
+        if !turn(&mut input, &mut output, number)? {
+            break;
+        }
     }
+    Ok(())
 }

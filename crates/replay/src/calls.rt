@@ -6,10 +6,12 @@ use script::command::Command;
 use script::lent::Lengths;
 use script::lists::Lists;
 use script::{command, lists, part};
+use std::io;
+use std::io::Write;
 use trace::Trace;
 
 // What put and upload leave: the trace and the buffers.
-#[derive(Drop)]
+#[derive(Clone, Copy)]
 pub(crate) struct After {
     pub trace: Trace,
     pub x: [i16; part::ROOM],
@@ -50,44 +52,45 @@ fn setup(command: Command) -> Trace {
 }
 
 // start m N t1..t16
-fn start(command: Command) -> Trace {
+fn start<W: Write>(out: &mut W, command: Command) -> io::Result<Trace> {
     let levels = command.count(1);
     let capacity = command.count(2);
     let started = Trace::start(levels, capacity, command.tolerances(3));
-    answers::started(started);
-    started.trace
+    answers::started(out, started)?;
+    Ok(started.trace)
 }
 
 // decode, of the 16 bytes after the first four.
-fn decode(bytes: [u8; command::LENGTH]) {
-    answers::decoded(record::decode(&bytes[4..20]));
+fn decode<W: Write>(out: &mut W, bytes: [u8; command::LENGTH]) -> io::Result<()> {
+    answers::decoded(out, record::decode(&bytes[4..20]))
 }
 
 // A call that takes no buffer, by its operation; the trace after it.
-pub(crate) fn alone(command: Command, trace: Trace) -> Trace {
+pub(crate) fn alone<W: Write>(out: &mut W, command: Command, trace: Trace) -> io::Result<Trace> {
     let operation = command.word(0);
     if operation == 1 {
-        return setup(command);
+        return Ok(setup(command));
     }
     if operation == 3 {
-        return start(command);
+        return start(out, command);
     }
     if operation == 8 {
         let bytes = command.bytes;
-        decode(bytes);
+        decode(out, bytes)?;
     }
-    trace
+    Ok(trace)
 }
 
 // ask i j k
-pub(crate) fn ask(
+pub(crate) fn ask<W: Write>(
+    out: &mut W,
     command: Command,
     trace: Trace,
     n: Lengths,
     x: [i16; part::ROOM],
     y: [i16; part::ROOM],
     m: [u8; part::ROOM],
-)
+) -> io::Result<()>
     requires { (n.xs ≤ 320) × (n.ys ≤ 320) × (n.marks ≤ 320) }
 {
     let nx = n.xs;
@@ -96,11 +99,12 @@ pub(crate) fn ask(
     let i = command.count(1);
     let j = command.count(2);
     let k = command.count(3);
-    answers::asked(trace.ask(&x[..nx], &y[..ny], &m[..nm], k, i, j));
+    answers::asked(out, trace.ask(&x[..nx], &y[..ny], &m[..nm], k, i, j))
 }
 
 // read; the ranks after it.
-pub(crate) fn read(
+pub(crate) fn read<W: Write>(
+    out: &mut W,
     trace: Trace,
     n: Lengths,
     x: [i16; part::ROOM],
@@ -108,7 +112,7 @@ pub(crate) fn read(
     m: [u8; part::ROOM],
     r: [u8; part::ROOM],
     cells: &[u16],
-) -> [u8; part::ROOM]
+) -> io::Result<[u8; part::ROOM]>
     requires { (n.xs ≤ 320) × (n.ys ≤ 320) × (n.marks ≤ 320) × (n.ranks ≤ 320) × (n.cells ≤ length cells.now) }
 {
     let nx = n.xs;
@@ -118,12 +122,13 @@ pub(crate) fn read(
     let nt = n.cells;
     let mut r = r;
     let levels = trace.read(&x[..nx], &y[..ny], &m[..nm], &cells[..nt], &mut r[..nr]);
-    answers::levels(levels);
-    r
+    answers::levels(out, levels)?;
+    Ok(r)
 }
 
 // put v x y mark
-pub(crate) fn put(
+pub(crate) fn put<W: Write>(
+    out: &mut W,
     command: Command,
     trace: Trace,
     n: Lengths,
@@ -131,7 +136,7 @@ pub(crate) fn put(
     y: [i16; part::ROOM],
     m: [u8; part::ROOM],
     cells: &mut [u16],
-) -> After
+) -> io::Result<After>
     requires { (n.xs ≤ 320) × (n.ys ≤ 320) × (n.marks ≤ 320) × (n.cells ≤ length cells.old) }
 {
     let nx = n.xs;
@@ -151,9 +156,9 @@ pub(crate) fn put(
         v,
         sample,
     );
-    answers::changed(changed);
+    answers::changed(out, changed)?;
     let trace = changed.trace;
-    After { trace, x, y, m }
+    Ok(After { trace, x, y, m })
 }
 
 // The values of each list.
@@ -182,7 +187,8 @@ fn restarts_of(lists: Lists) -> [u8; part::ROOM]
 }
 
 // upload
-pub(crate) fn upload(
+pub(crate) fn upload<W: Write>(
+    out: &mut W,
     n: Lengths,
     mut x: [i16; part::ROOM],
     mut y: [i16; part::ROOM],
@@ -190,7 +196,7 @@ pub(crate) fn upload(
     trace: Trace,
     lists: Lists,
     cells: &mut [u16],
-) -> After
+) -> io::Result<After>
     requires { (n.xs ≤ 320) × (n.ys ≤ 320) × (n.marks ≤ 320) × (n.cells ≤ length cells.old) }
 {
     let nx = n.xs;
@@ -213,7 +219,7 @@ pub(crate) fn upload(
         &u[..nu],
         &r[..nr],
     );
-    answers::uploaded(uploaded);
+    answers::uploaded(out, uploaded)?;
     let trace = uploaded.trace;
-    After { trace, x, y, m }
+    Ok(After { trace, x, y, m })
 }

@@ -5,9 +5,11 @@ use script::command::Command;
 use script::lent::{Lengths, Lent};
 use script::lists::Lists;
 use script::{command, lent, lists, part, say};
+use std::io;
+use std::io::{Read, Write};
 use trace::Trace;
 
-#[derive(Drop)]
+#[derive(Clone, Copy)]
 struct State {
     trace: Trace,
     lent: Lent,
@@ -38,7 +40,12 @@ fn kept(after: After, n: Lengths, r: [u8; part::ROOM], lists: Lists) -> State {
 }
 
 // A call over what is lent, where the operation is one.
-fn give(command: Command, state: State, cells: &mut [u16]) -> State {
+fn give<W: Write>(
+    out: &mut W,
+    command: Command,
+    state: State,
+    cells: &mut [u16],
+) -> io::Result<State> {
     let trace = state.trace;
     let lent = state.lent;
     let lists = state.lists;
@@ -53,55 +60,75 @@ fn give(command: Command, state: State, cells: &mut [u16]) -> State {
     let n = lent::each_length(lent, cells.len());
     let operation = command.word(0);
     if operation == 6 {
-        calls::ask(command, trace, n, x, y, m);
-        return state;
+        calls::ask(out, command, trace, n, x, y, m)?;
+        return Ok(state);
     }
     if operation == 7 {
-        let r = calls::read(trace, n, x, y, m, r, cells);
+        let r = calls::read(out, trace, n, x, y, m, r, cells)?;
         let lent = lent::of(n, x, y, m, r);
-        return State { trace, lent, lists };
+        return Ok(State { trace, lent, lists });
     }
     if operation == 9 {
-        return kept(calls::put(command, trace, n, x, y, m, cells), n, r, lists);
+        let after = calls::put(out, command, trace, n, x, y, m, cells)?;
+        return Ok(kept(after, n, r, lists));
     }
     if operation == 12 {
-        return kept(calls::upload(n, x, y, m, trace, lists, cells), n, r, lists);
+        let after = calls::upload(out, n, x, y, m, trace, lists, cells)?;
+        return Ok(kept(after, n, r, lists));
     }
-    state
+    Ok(state)
 }
 
 // The state after a command: each part changed by the operations that are its own, and then by a call over what is lent.
-fn obey(command: Command, state: State, cells: &mut [u16]) -> State {
+fn obey<W: Write>(
+    out: &mut W,
+    command: Command,
+    state: State,
+    cells: &mut [u16],
+) -> io::Result<State> {
     let trace = state.trace;
     let lent = state.lent;
     let lists = state.lists;
-    let trace = calls::alone(command, trace);
-    let lent = lent::after(command, lent, cells);
-    let lists = lists::after(command, lists);
-    give(command, State { trace, lent, lists }, cells)
+    let trace = calls::alone(out, command, trace)?;
+    let lent = lent::after(out, command, lent, cells)?;
+    let lists = lists::after(out, command, lists)?;
+    give(out, command, State { trace, lent, lists }, cells)
 }
 
 // Carry a command out, and end its line.
-fn turn(command: Command, steps: &[u32; 256], state: State, cells: &mut [u16]) -> State {
+fn turn<W: Write>(
+    out: &mut W,
+    command: Command,
+    steps: &[u32; 256],
+    state: State,
+    cells: &mut [u16],
+) -> io::Result<State> {
     if !calls::is_good(command) {
-        say::unknown();
-        return state;
+        say::unknown(out)?;
+        return Ok(state);
     }
-    let next = obey(command, state, cells);
+    let next = obey(out, command, state, cells)?;
     if calls::has_digest(command.word(0)) {
         let lent = next.lent;
-        lent::say_digest(steps, lent, cells);
+        lent::say_digest(out, steps, lent, cells)?;
     }
-    next
+    Ok(next)
 }
 
-// Carry out the commands of standard input. A proved loop has to end, so it counts down from a number that no script uses up.
-pub(crate) fn run(steps: &[u32; 256], cells: &mut [u16]) {
+// Carry out the commands of the input. A proved loop has to end, so it counts up to a number that no script reaches.
+pub(crate) fn run<R: Read, W: Write>(
+    input: &mut R,
+    out: &mut W,
+    steps: &[u32; 256],
+    cells: &mut [u16],
+) -> io::Result<()> {
     let mut bytes = [0u8; command::LENGTH];
     let mut state = fresh();
-    let mut turns = u64::MAX;
-    while turns > 0 && command::next(&mut bytes) {
-        state = turn(Command { bytes }, steps, state, cells);
-        turns -= 1;
+    for _ in 0..u64::MAX {
+        if !command::next(input, out, &mut bytes)? {
+            break;
+        }
+        state = turn(out, Command { bytes }, steps, state, cells)?;
     }
+    Ok(())
 }
