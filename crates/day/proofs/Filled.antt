@@ -11,7 +11,7 @@ use lib.ListN.{length, get_or, set, length-set}
 use lib.Seq.{get_or-set_same, get_or-set_other}
 use Rattle.refusal.specs.declared.Refusal.{Refusal}
 use Rattle.refusal.specs.declared.Outcome.TheVariants.{Done, Refused}
-use Rattle.refusal.specs.Number.{number, code}
+use Rattle.refusal.specs.Number.{code}
 use Rattle.refusal.specs.Check.{First, all_below}
 use Rattle.refusal.proofs.Rows.{code_one, first_passed, first_same, numbered}
 use Rattle.sample.specs.Samples.{Samples}

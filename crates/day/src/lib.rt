@@ -1,5 +1,6 @@
 // The text of a day: its samples with their ranks, the segments and the pause line, or the number of its refusal.
 #![tactic(auto)]
+
 ghost use Rattle.std.specs.Prelude.{◌≡◌, length};
 ghost use Rattle.refusal.specs.declared.Outcome.TheVariants.{Done};
 ghost use Rattle.sample.specs.Samples.{samples};

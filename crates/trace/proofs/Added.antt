@@ -16,7 +16,6 @@ use Rattle.costs.specs.Costs.{sum}
 use Rattle.costs.proofs.Tally.{sum_same}
 use Rattle.trace.specs.declared.Trace.{Trace}
 use Rattle.trace.specs.declared.Stop.{Stop}
-use Rattle.trace.specs.declared.Stop.TheVariants as Stop
 use Rattle.trace.specs.declared.Uploaded.{Uploaded}
 use Rattle.trace.specs.Calls.{sizes, Buffers, Put, holding}
 use Rattle.checks.specs.Numbers.{OneLength}

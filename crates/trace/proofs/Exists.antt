@@ -10,7 +10,6 @@ use Rattle.refusal.specs.Number.{code}
 use Rattle.refusal.proofs.Plain.{decided}
 use Rattle.refusal.proofs.Rows.{by_outcome}
 use Rattle.geometry.specs.declared.Verdict.{Verdict}
-use Rattle.geometry.specs.declared.Verdict.TheVariants as Verdict
 use Rattle.sample.specs.declared.Sample.{Sample}
 use Rattle.sample.specs.Samples.{Samples, store}
 use Rattle.geometry.specs.Spoiler.{Says}
@@ -28,7 +27,6 @@ use Rattle.trace.specs.declared.Changed.{Changed}
 use Rattle.trace.specs.declared.Stop.TheVariants as Stop
 use Rattle.trace.specs.declared.Uploaded.{Uploaded}
 use Rattle.trace.specs.declared.Asked.{Asked}
-use Rattle.trace.specs.declared.Asked.TheVariants as Asked
 use Rattle.trace.specs.declared.Levels.{Levels}
 use Rattle.checks.specs.Numbers.{StartNumber, PutNumber, AskNumber, ReadNumber}
 use Rattle.sizes.specs.Setup.{held_with}

@@ -22,7 +22,6 @@ use Rattle.trace.specs.declared.Started.{Started}
 use Rattle.trace.specs.declared.Changed.{Changed}
 use Rattle.trace.specs.declared.Uploaded.{Uploaded}
 use Rattle.trace.specs.declared.Asked.{Asked}
-use Rattle.trace.specs.declared.Asked.TheVariants as Asked
 use Rattle.trace.specs.declared.Levels.{Levels}
 use Rattle.checks.specs.Numbers.{StartNumber, PutNumber, ReadNumber}
 use Rattle.trace.specs.Calls.{sizes, StartGives, Buffers, Put, PutGives, asked, Says, AskGives, ReadGives}

@@ -30,7 +30,6 @@ use Rattle.trace.specs.declared.Changed.{Changed}
 use Rattle.trace.specs.declared.Stop.TheVariants as Stop
 use Rattle.trace.specs.declared.Uploaded.{Uploaded}
 use Rattle.trace.specs.declared.Asked.{Asked}
-use Rattle.trace.specs.declared.Asked.TheVariants as Asked
 use Rattle.trace.specs.declared.Levels.{Levels}
 use Rattle.sample.specs.Valid.{Valid}
 use Rattle.sizes.specs.Setup.{Tolerances}

@@ -17,7 +17,6 @@ use Rattle.trace.specs.declared.Trace.{Trace}
 use Rattle.trace.specs.declared.Started.{Started}
 use Rattle.trace.specs.declared.Changed.{Changed}
 use Rattle.trace.specs.declared.Asked.{Asked}
-use Rattle.trace.specs.declared.Asked.TheVariants as Asked
 use Rattle.trace.specs.declared.Levels.{Levels}
 
 -- what the checks know of a trace

@@ -10,7 +10,6 @@ use Rattle.checks.specs.Numbers.{OneLength}
 use Rattle.trace.specs.declared.Trace.{Trace}
 use Rattle.trace.specs.declared.Changed.{Changed}
 use Rattle.trace.specs.declared.Stop.{Stop}
-use Rattle.trace.specs.declared.Stop.TheVariants as Stop
 use Rattle.trace.specs.declared.Uploaded.{Uploaded}
 use Rattle.trace.specs.Calls.{Buffers, PutGives}
 

@@ -1,5 +1,6 @@
 // A trace's setup, and the public calls on a trace: each checks its row of refusals, then acts.
 #![tactic(auto)]
+
 ghost use Rattle.std.specs.Prelude.{◌≡◌, ◌<◌, length};
 ghost use Rattle.sample.specs.Samples.{samples};
 ghost use Rattle.checks.specs.Numbers.{OneLength};

@@ -1,7 +1,6 @@
 -- `checks::read_outcome` meets its contract. Assumes nothing.
 use mathlib.Core.Path.{◌≡◌, sym, ap, ap₂, ◌∙◌}
 use mathlib.Core.Bool.{◌&&◌}
-use lib.Dec.{leb}
 use lib.ListN.{length}
 use Rattle.refusal.proofs.Laws.{and_left}
 use Rattle.sample.specs.Samples.{samples}
@@ -13,7 +12,7 @@ pub stored_outcome-o-requires : goal.stored_outcome-o-requires
 stored_outcome-o-requires c =
     let long : let a = c.args in (c.samples_lent-places.result && c.table_lent.result) ≡ (samples_lent a.s.capacity (lengths (samples a.xs.now a.ys.now a.marks.now)) && table_lent a.s (length a.table.now)) = ap₂ ◌&&◌ (c.samples_lent-places.ensures ∙ ap (samples_lent _) c.lengths_of.ensures) c.table_lent.ensures in
     let a = c.args in
-    λ h. (lent_table a.s (samples a.xs.now a.ys.now a.marks.now) a.table.now).right (sym (long) ∙ and_left _ (leb a.s.held a.bytes) h)
+    λ h. (lent_table a.s (samples a.xs.now a.ys.now a.marks.now) a.table.now).right (sym (long) ∙ and_left _ _ h)
 
 pub returns : goal.returns
 unfolding read_outcome
