@@ -16,9 +16,8 @@ fn print<W: Write>(file: &[u8], output: &mut W) -> io::Result<()>
     output.write_all(&out[..k])
 }
 
-// A read that fails is an empty file.
 fn main(rt: HostRuntime) -> io::Result<()> {
     let mut file = [0u8; day::FILE_ROOM];
-    let n = input::read_full(&mut rt.stdin(), &mut file).unwrap_or(0);
+    let n = input::read_full(&mut rt.stdin(), &mut file);
     print(&file[..n], &mut rt.stdout())
 }

@@ -39,7 +39,7 @@ pub fn next<R: Read, W: Write>(
     out: &mut W,
     bytes: &mut [u8; LENGTH],
 ) -> io::Result<bool> {
-    let got = input::read_full(input, bytes)?;
+    let got = input::read_full(input, bytes);
     if got == LENGTH {
         return Ok(true);
     }
