@@ -1,5 +1,5 @@
 // What is lent to every call: the parts of the buffers, and how many of the cells, which stand in a table apart.
-ghost use Rattle.std.specs.Prelude.{◌≤◌};
+ghost use Rattle.std.specs.Prelude.{◌≡◌, ◌≤◌, OnErr};
 
 use crate::command::Command;
 use crate::part::{Bytes, Shorts};
@@ -94,12 +94,9 @@ fn filled(lx: usize, ly: usize, lt: usize, lr: usize, lm: usize) -> Lent {
 }
 
 // bufs LX LY LT LR LM: lend so much of each buffer, and fill it.
-fn bufs<W: Write>(
-    out: &mut W,
-    command: Command,
-    lent: Lent,
-    cells: &mut [u16],
-) -> io::Result<Lent> {
+fn bufs<W: Write>(out: &mut W, command: Command, lent: Lent, cells: &mut [u16]) -> io::Result<Lent>
+    ensures { OnErr result (cells.new ≡ cells.old) }
+{
     let lx = command.count(1);
     let ly = command.count(2);
     let lt = command.count(3);
@@ -140,12 +137,9 @@ fn poked<W: Write>(out: &mut W, lent: Lent, w: u32, p: usize, v: u32) -> io::Res
 }
 
 // poke w p v: the same, and w = 2 a cell.
-fn poke<W: Write>(
-    out: &mut W,
-    command: Command,
-    lent: Lent,
-    cells: &mut [u16],
-) -> io::Result<Lent> {
+fn poke<W: Write>(out: &mut W, command: Command, lent: Lent, cells: &mut [u16]) -> io::Result<Lent>
+    ensures { OnErr result (cells.new ≡ cells.old) }
+{
     let w = command.word(1);
     let p = command.count(2);
     let v = command.word(3);
@@ -156,13 +150,15 @@ fn poke<W: Write>(
     poked(out, lent, w, p, v)
 }
 
-// What is lent after a command: bufs is operation 0, poke 2, and no other changes it.
+// What is lent after a command: bufs is operation 0, poke 2, and no other changes it. An error of the writer leaves the cells as they were.
 pub fn after<W: Write>(
     out: &mut W,
     command: Command,
     lent: Lent,
     cells: &mut [u16],
-) -> io::Result<Lent> {
+) -> io::Result<Lent>
+    ensures { OnErr result (cells.new ≡ cells.old) }
+{
     let operation = command.word(0);
     if operation == 0 {
         return bufs(out, command, lent, cells);

@@ -5,13 +5,13 @@ use std::io;
 use std::io::{Stdout, Write};
 
 // The bytes that the buffer holds.
-const ROOM: usize = 4096;
+const PAGE_ROOM: usize = 4096;
 
 // What is written stands in the buffer until it is flushed, or until there is no room for more.
 #[derive(Drop)]
 pub struct Page {
     to: Stdout,
-    bytes: [u8; ROOM],
+    bytes: [u8; PAGE_ROOM],
     used: usize,
     ghost in_room: { used ≤ 4096 },
 }
@@ -21,7 +21,7 @@ impl Page {
     pub fn new(to: Stdout) -> Page {
         Page {
             to,
-            bytes: [0; ROOM],
+            bytes: [0; PAGE_ROOM],
             used: 0,
         }
     }
@@ -29,10 +29,10 @@ impl Page {
 
 impl Write for Page {
     fn write(&mut self, buf: &[u8]) -> io::Result<usize> {
-        if self.used == ROOM {
+        if self.used == PAGE_ROOM {
             self.flush()?;
         }
-        let n = buf.len().min(ROOM - self.used);
+        let n = buf.len().min(PAGE_ROOM - self.used);
         let end = self.used + n;
         self.bytes[self.used..end].copy_from_slice(&buf[..n]);
         self.used = end;

@@ -1,5 +1,5 @@
 // Buffers by value of which the first n values are in use: what is lent to a call, or what a list of an upload has.
-ghost use Rattle.std.specs.Prelude.{◌≡◌, ◌≤◌, length};
+ghost use Rattle.std.specs.Prelude.{◌≡◌, ◌≤◌, length, OnErr};
 
 use crate::{command, say};
 use std::io;
@@ -152,7 +152,9 @@ pub fn poke_cell<W: Write>(
     n: usize,
     p: usize,
     word: u32,
-) -> io::Result<()> {
+) -> io::Result<()>
+    ensures { OnErr result (s.new ≡ s.old) }
+{
     let m = within(n, s.len());
     if m <= p {
         return say::unknown(out);
