@@ -9,6 +9,8 @@ import sys
 
 TOKEN = re.compile(r"[^\s(){}\[\],;.`\"]+")
 HEAD = re.compile(r"^(?:abbrev |unfoldable |pub |data |record |ruleset )*([^\s:(){}]+) *[:({]")
+INNER = re.compile(r"^\s+(?:abbrev |unfoldable |pub )*([^\s:(){}]+) : ")
+FOREIGN = re.compile(r"^use (?!Rattle\.(?:%s)\b)[^{\n]*\{([^}]*)\}", re.M)
 
 
 def snake(name):
@@ -27,8 +29,27 @@ def declared(files):
                 yield m.group(1)
 
 
+def within(files):
+    """Fields, and what a module or a where declares."""
+    for f in files:
+        for line in open(f):
+            m = INNER.match(line)
+            if m and not line.lstrip().startswith("--"):
+                yield m.group(1)
+
+
+def foreign(files):
+    """Names of the library that some file imports."""
+    crates = "|".join(line.split(":")[0] for line in open("crates.txt") if ":" in line and not line.startswith("#"))
+    for f in files:
+        for m in re.finditer(FOREIGN.pattern % crates, open(f).read(), re.M):
+            yield from (x.strip() for x in m.group(1).split(","))
+
+
 lemmas = [f for f in glob.glob("crates/*/specs/*.antt") + glob.glob("crates/*/proofs/*.antt")]
-names = {n: snake(n) for n in declared(lemmas) if re.fullmatch(r"[A-Za-z0-9'\-]+", n)}
+everything = glob.glob("crates/*/specs/*.antt") + glob.glob("crates/*/proofs/**/*.antt", recursive=True)
+library = set(foreign(everything))
+names = {n: snake(n) for n in [*declared(lemmas), *within(lemmas)] if re.fullmatch(r"[A-Za-z0-9'_\-]+", n) and n not in library}
 names = {a: b for a, b in names.items() if a != b and not a[0].isupper()}
 # a lemma that would have its definition's name ends in _lem
 words = {b for a, b in names.items() if "-" not in a}
