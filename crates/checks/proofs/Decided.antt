@@ -14,7 +14,7 @@ use Rattle.refusal.proofs.Laws.{and_fails}
 use Rattle.refusal.proofs.Plain.{carry, by_less, by_order, by_equal, both_decided, from_to_decided}
 use Rattle.sample.specs.Samples.{Samples}
 use Rattle.sample.proofs.Decided.{samples_decided}
-use Rattle.table.proofs.Check.{cells-decided}
+use Rattle.table.proofs.Check.{cells_decided}
 use Rattle.sizes.specs.declared.Sizes.{Sizes}
 use Rattle.checks.specs.Numbers.{LentSamples, LentTable, StoredSamples, StoredCells, Absent, OneLength}
 use Rattle.checks.specs.Rows.{lengths, samples_lent, table_lent, stored_ok, stretch_ok, lists_ok}
@@ -36,7 +36,7 @@ lent_ranks a xs t ranks =
 pub stored_decided : (a : Sizes) (xs : Samples) (t : List ℕ)
     → Decides (StoredSamples a xs × StoredCells a t) (stored_ok a xs t)
 unfolding stored_ok
-stored_decided a xs t = both_decided _ _ (samples_decided xs a.held) (cells-decided t a.capacity a.held a.levels)
+stored_decided a xs t = both_decided _ _ (samples_decided xs a.held) (cells_decided t a.capacity a.held a.levels)
 
 pub lists_decided : (us : Samples) → Decides (OneLength us) (lists_ok (lengths us))
 lists_decided us = both_decided _ _ (by_equal (length us.across) (length us.up)) (by_equal (length us.across) (length us.marks))

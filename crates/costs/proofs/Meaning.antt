@@ -16,19 +16,19 @@ use Rattle.family.specs.Family.{value, Genuine}
 use Rattle.family.specs.Levels as Levels
 use Rattle.family.specs.Fine.{Fine}
 use Rattle.family.specs.Path.{done, step, Written}
-use Rattle.family.proofs.Checks.{room as fits, fine_near, checked-most}
+use Rattle.family.proofs.Checks.{room as fits, fine_near, checked_most}
 use Rattle.family.proofs.Foreign.{value_written, written_one}
 use Rattle.geometry.proofs.Permits.{marked_stops}
 use Rattle.geometry.proofs.Spoiler.{permits_decided}
 use Rattle.family.proofs.Kept.{family_holds}
 use Rattle.family.proofs.Local.{Without, with?}
-use Rattle.family.proofs.Promise.{genuine-meant}
+use Rattle.family.proofs.Promise.{genuine_meant}
 use Rattle.table.specs.Table.{cell}
 use Rattle.costs.specs.Costs.{Permit, Named, CellsWritten}
 use Rattle.permission.specs.Finest.{perm}
 use Rattle.costs.specs.Walk.{Rewritten}
 use Rattle.permission.proofs.Perm.{perm_adjacent}
-use Rattle.costs.proofs.Exit.{named_kept, rewritten-checked, rewritten_unique, Others, put-genuine}
+use Rattle.costs.proofs.Exit.{named_kept, rewritten_checked, rewritten_unique, Others, put_genuine}
 
 module _ (xs : Samples) (tols : List ℕ) (m n : ℕ) (ranged : Ranged xs n) where
   -- the test decides each stretch of the n samples
@@ -37,8 +37,8 @@ module _ (xs : Samples) (tols : List ℕ) (m n : ℕ) (ranged : Ranged xs n) whe
   permissions k i j a b o h = permits_decided xs i j (get_or tols (k - 1) 0) (fewer_ranged (omega arith) ranged) o
 
   -- a table is genuine exactly when every cell is its cost
-  pub genuine-is : m ≤ 16 → n ≤ 256 → (c : ℕ → ℕ → ℕ → ℕ) → Genuine (perm xs tols) c m n ↔ Levels.Costs (Permit xs tols) c m n
-  genuine-is a b c = genuine-meant (Permit xs tols) (perm xs tols) (perm_adjacent xs tols) m n (fits m n a b) permissions c
+  pub genuine_is : m ≤ 16 → n ≤ 256 → (c : ℕ → ℕ → ℕ → ℕ) → Genuine (perm xs tols) c m n ↔ Levels.Costs (Permit xs tols) c m n
+  genuine_is a b c = genuine_meant (Permit xs tols) (perm xs tols) (perm_adjacent xs tols) m n (fits m n a b) permissions c
 
 -- in every family of the samples a marked one is in every level, since no permitted stretch passes over it
 pub marked_held : (xs : Samples) (tols : List ℕ) {k i j : ℕ} {L : ℕ → List ℕ} (q : ℕ) → Marked xs.marks q → Levels.Family (Permit xs tols) k i j L → i ≤ q → q ≤ j
@@ -58,9 +58,9 @@ written_near P c (suc k) x w b p under W =
 module _ (N : ℕ) (xs : Samples) (tols : List ℕ) (m v n : ℕ) (t : List ℕ) (few : m ≤ 16) (small : n ≤ 256) (room : n ≤ N) (ranged : Ranged xs n)
     (fine : (k i j : ℕ) → 1 ≤ k → k ≤ m → i < j → j < n → Without v i j → Fine k i j (cell t N k i j)) where
   -- the value of a named cell is what the paper says, where the cells of neighbours are at most their level
-  value-is : (e : List ℕ) → ((k x : ℕ) → 1 ≤ k → k ≤ m → suc x < n → cell e N k x (suc x) ≤ k)
+  value_is : (e : List ℕ) → ((k x : ℕ) → 1 ≤ k → k ≤ m → suc x < n → cell e N k x (suc x) ≤ k)
       → (k i j : ℕ) → Named m v n k i j → Written (Permit xs tols) (cell e N) k i j (value (perm xs tols) (cell e N) k i j)
-  value-is e near k i j s = value_written (Permit xs tols) (perm xs tols) (cell e N) m n near (fits m n few small) k i j s.0 s.1 s.4 s.5
+  value_is e near k i j s = value_written (Permit xs tols) (perm xs tols) (cell e N) m n near (fits m n few small) k i j s.0 s.1 s.4 s.5
       (permissions xs tols m n ranged k i j s.0 s.1 s.4 s.5)
 
   -- they are at most their level, found or written
@@ -78,29 +78,29 @@ module _ (N : ℕ) (xs : Samples) (tols : List ℕ) (m v n : ℕ) (t : List ℕ)
       (with? v x (suc x))
 
   -- what the walk leaves is what the paper says
-  pub rewritten-cells : (e : List ℕ) → Rewritten N (perm xs tols) (Named m v n) t e → CellsWritten N (Permit xs tols) m v n t e
-  rewritten-cells e w =
-      let C = rewritten-checked N (perm xs tols) m v n room t e w (perm_adjacent xs tols) few small fine in
-      record { same = w.same; named = λ k i j s. rw (w.named k i j s) (value-is e (checked-most (cell e N) m n C) k i j s); other = w.other }
+  pub rewritten_cells : (e : List ℕ) → Rewritten N (perm xs tols) (Named m v n) t e → CellsWritten N (Permit xs tols) m v n t e
+  rewritten_cells e w =
+      let C = rewritten_checked N (perm xs tols) m v n room t e w (perm_adjacent xs tols) few small fine in
+      record { same = w.same; named = λ k i j s. rw (w.named k i j s) (value_is e (checked_most (cell e N) m n C) k i j s); other = w.other }
 
   -- and what the paper says is what the walk leaves
-  pub cells-rewritten : (e : List ℕ) → CellsWritten N (Permit xs tols) m v n t e → Rewritten N (perm xs tols) (Named m v n) t e
-  cells-rewritten e w = record {
+  pub cells_rewritten : (e : List ℕ) → CellsWritten N (Permit xs tols) m v n t e → Rewritten N (perm xs tols) (Named m v n) t e
+  cells_rewritten e w = record {
     same = w.same;
     named = λ k i j s. written_one (Permit xs tols) (cell e N) k i j (cell e N k i j) (value (perm xs tols) (cell e N) k i j) (perm xs tols k i j) s.0
-        (permissions xs tols m n ranged k i j s.0 s.1 s.4 s.5) (w.named k i j s) (value-is e (near e w) k i j s);
+        (permissions xs tols m n ranged k i j s.0 s.1 s.4 s.5) (w.named k i j s) (value_is e (near e w) k i j s);
     other = w.other;
   }
 
   -- so it is one table
-  pub cells-one : v < n → (e f : List ℕ) → CellsWritten N (Permit xs tols) m v n t e → CellsWritten N (Permit xs tols) m v n t f → e ≡ f
-  cells-one o e f w x = rewritten_unique N (perm xs tols) m v n o room t e f (cells-rewritten e w) (cells-rewritten f x)
+  pub cells_one : v < n → (e f : List ℕ) → CellsWritten N (Permit xs tols) m v n t e → CellsWritten N (Permit xs tols) m v n t f → e ≡ f
+  cells_one o e f w x = rewritten_unique N (perm xs tols) m v n o room t e f (cells_rewritten e w) (cells_rewritten f x)
 
 -- the samples before, of which n are held, sample v put as x, n' then held, and the tables before and after
 module _ (N : ℕ) (xs : Samples) (tols : List ℕ) (x : Sample) (m v n n' : ℕ) (t e : List ℕ) (few : m ≤ 16) (small : N ≤ 256) (room : n ≤ N) (ranged : Ranged xs n)
     (others : Others v n n') where
-  pub put-costs : n' ≤ N → Ranged (store xs v x) n' → Rewritten N (perm (store xs v x) tols) (Named m v n') t e
+  pub put_costs : n' ≤ N → Ranged (store xs v x) n' → Rewritten N (perm (store xs v x) tols) (Named m v n') t e
       → Levels.Costs (Permit xs tols) (cell t N) m n → Levels.Costs (Permit (store xs v x) tols) (cell e N) m n'
-  put-costs h ranged' w C =
-      (genuine-is (store xs v x) tols m n' ranged' few (omega arith) (cell e N)).0
-      (put-genuine N m v n n' others t xs tols e h x w ((genuine-is xs tols m n ranged few (omega arith) (cell t N)).1 C))
+  put_costs h ranged' w C =
+      (genuine_is (store xs v x) tols m n' ranged' few (omega arith) (cell e N)).0
+      (put_genuine N m v n n' others t xs tols e h x w ((genuine_is xs tols m n ranged few (omega arith) (cell t N)).1 C))

@@ -10,20 +10,20 @@ use lib.ListN.{length, get_or, set}
 use Rattle.family.specs.Family.{below, value}
 use Rattle.family.proofs.Local.{value_same}
 use Rattle.table.specs.Table.{at, cell, Wrote}
-use Rattle.table.proofs.Writes.{Inside, One, wrote_none, wrote_one, wrote_kept, wrote_as, wrote-more}
+use Rattle.table.proofs.Writes.{Inside, One, wrote_none, wrote_one, wrote_kept, wrote_as, wrote_more}
 use Rattle.costs.specs.Costs.{Named}
 use Rattle.permission.specs.Finest.{Finest}
 use Rattle.costs.specs.Walk.{Rewritten, Row, Rows, from_finest, price}
 
 -- a row, cell by cell
 module _ (N : ℕ) (G : ℕ → ℕ → ℕ → ℕ) (k j : ℕ) (hk : 1 ≤ k) (hj : j < N) where
-  pub row-none : (t : List ℕ) → Wrote N (Row k j 0) G t t
-  row-none t = wrote_none N G (Row k j 0) t (λ k' i' j' s. omega arith)
+  pub row_none : (t : List ℕ) → Wrote N (Row k j 0) G t t
+  row_none t = wrote_none N G (Row k j 0) t (λ k' i' j' s. omega arith)
 
   pub row_more : (t e : List ℕ) (i v : ℕ) → Wrote N (Row k j i) G t e → i < N → at N k i j < length e → v ≡ G k i j
       → Wrote N (Row k j (i + 1)) G t (set e (at N k i j) v)
   row_more t e i v w hi h g =
-      wrote-more N G (Row k j i) t e w (λ k' i' j' s. omega arith)
+      wrote_more N G (Row k j i) t e w (λ k' i' j' s. omega arith)
       (One k i j) (Row k j (i + 1)) (set e (at N k i j) v) (wrote_one N G e k i j v h g) (λ k' i' j' s. omega arith)
       (λ k' i' j' s r. omega arith)
       (λ k' i' j' s. ⊎_elim (λ q. inr (s.0, q, s.1)) (λ q. inl (s.0, s.1, q)) (eq-or-lt_of_le {m = i} (omega arith)))
@@ -39,7 +39,7 @@ rewritten_more : (N : ℕ) (perm : ℕ → ℕ → ℕ → Bool) (S R Q : ℕ �
     → ((k i j : ℕ) → S k i j → Q k i j) → ((k i j : ℕ) → R k i j → Q k i j)
     → Rewritten N perm Q t f
 rewritten_more N perm S R Q t e f w x insideS insideR order apart reads split left right =
-    wrote-more N (value perm (cell f N)) S t e (wrote_as N (value perm (cell e N)) S t e w insideS (value perm (cell f N)) same) insideS R Q f x insideR apart split left right
+    wrote_more N (value perm (cell f N)) S t e (wrote_as N (value perm (cell e N)) S t e w insideS (value perm (cell f N)) same) insideS R Q f x insideR apart split left right
   where
     same : (k i j : ℕ) → S k i j → value perm (cell e N) k i j ≡ value perm (cell f N) k i j
     same k i j s =
@@ -57,9 +57,9 @@ module _ (N : ℕ) (finest : List ℕ) (j top : ℕ) (hj : j < N) (ht : top ≤ 
   pub rows_none : Rewritten N (from_finest finest) (Rows 0 j top) t t
   rows_none = wrote_none N (value (from_finest finest) (cell t N)) (Rows 0 j top) t (λ k i j' s. omega arith)
 
-  row-rewritten : (k : ℕ) (sums e f : List ℕ) → 1 ≤ k → ((i : ℕ) → i ≤ j → get_or sums i 0 ≡ below (cell e N) (k - 1) i j)
+  row_rewritten : (k : ℕ) (sums e f : List ℕ) → 1 ≤ k → ((i : ℕ) → i ≤ j → get_or sums i 0 ≡ below (cell e N) (k - 1) i j)
       → Wrote N (Row k j top) (λ k' i j'. price k' (get_or finest i 0) (get_or sums i 0)) e f → Rewritten N (from_finest finest) (Row k j top) e f
-  row-rewritten k sums e f hk rest x =
+  row_rewritten k sums e f hk rest x =
       wrote_as N _ (Row k j top) e f x inside (value (from_finest finest) (cell f N)) (λ k' i j' s. rw (s.0, s.1) (
       price_value finest (cell e N) k i j (get_or sums i 0) hk (rest i (omega arith))
       ∙ value_same (from_finest finest) (from_finest finest) (cell e N) (cell f N) k i j (omega arith) refl
@@ -73,7 +73,7 @@ module _ (N : ℕ) (finest : List ℕ) (j top : ℕ) (hj : j < N) (ht : top ≤ 
       → Wrote N (Row (k + 1) j top) (λ k' i j'. price k' (get_or finest i 0) (get_or sums i 0)) e f
       → Rewritten N (from_finest finest) (Rows (k + 1) j top) t f
   rows_more k sums e f w rest x =
-      rewritten_more N (from_finest finest) (Rows k j top) (Row (k + 1) j top) (Rows (k + 1) j top) t e f w (row-rewritten (k + 1) sums e f (omega arith) rest x)
+      rewritten_more N (from_finest finest) (Rows k j top) (Row (k + 1) j top) (Rows (k + 1) j top) t e f w (row_rewritten (k + 1) sums e f (omega arith) rest x)
       (λ k' i j' s. omega arith) (λ k' i j' s. omega arith) (λ k' i j' s. omega arith)
       (λ k' i j' s r. omega arith)
       (λ k' i j' l p q s g z r. omega arith)
@@ -91,8 +91,8 @@ rows_said N perm finest m j top t e a b f w =
 
 -- the ends of a call, one by one
 module _ (N : ℕ) (perm : ℕ → ℕ → ℕ → Bool) (m v : ℕ) (t : List ℕ) where
-  pub ends-none : Rewritten N perm (Named m v v) t t
-  ends-none = wrote_none N (value perm (cell t N)) (Named m v v) t (λ k i j s. omega arith)
+  pub ends_none : Rewritten N perm (Named m v v) t t
+  ends_none = wrote_none N (value perm (cell t N)) (Named m v v) t (λ k i j s. omega arith)
 
   pub ends_more : (j : ℕ) (e f : List ℕ) → v ≤ j → j < N → Rewritten N perm (Named m v j) t e → Rewritten N perm (Rows m j (min j (v + 1))) e f → Rewritten N perm (Named m v (j + 1)) t f
   ends_more j e f a b w x =

@@ -10,8 +10,8 @@ use borrow.Author.Tests.{le-leb}
 use lib.ListN.{get_or}
 use Rattle.family.specs.Family.{least, below, value}
 use Rattle.family.specs.Lists.{none}
-use Rattle.family.proofs.Paths.{least-end, least-le}
-use Rattle.family.proofs.Checks.{room, near-small}
+use Rattle.family.proofs.Paths.{least_end, least_le}
+use Rattle.family.proofs.Checks.{room, near_small}
 use Rattle.family.proofs.Local.{Without, with?}
 use Rattle.table.specs.Table.{cell}
 use Rattle.table.specs.Path.{SumAt}
@@ -21,7 +21,7 @@ use Rattle.costs.specs.Walk.{LowSteps, Rewritten, Rows, from_finest, Settled}
 
 -- nothing is added from the end itself
 pub sums_end : (c : ℕ → ℕ → ℕ) (j q : ℕ) → q ≡ j → (s : ℕ) → s ≡ 0 → SumAt c q j s
-sums_end c j q e s z = record { is = z ∙ sym (rw e (least-end c j)); small = omega arith }
+sums_end c j q e s z = record { is = z ∙ sym (rw e (least_end c j)); small = omega arith }
 
 -- below a level from 1 on
 pub below_is : (c : ℕ → ℕ → ℕ → ℕ) (k i j : ℕ) → 1 ≤ k → least (c k) i j ≡ below c k i j
@@ -33,7 +33,7 @@ below_is c (suc k) i j a = refl
 near_value : (perm : ℕ → ℕ → ℕ → Bool) (c : ℕ → ℕ → ℕ → ℕ) (k x : ℕ) → perm (suc k) x (suc x) ≡ true → (1 ≤ k → c k x (suc x) ≤ k) → value perm c (suc k) x (suc x) ≤ suc k
 unfolding value below
 near_value perm c zero x p h = rw p (omega arith)
-near_value perm c (suc k) x p h = rw p (omega (arith, least-le (c (suc k)) (suc x) x (omega arith) (suc x) (omega arith) (omega arith), least-end (c (suc k)) (suc x), h (omega arith)))
+near_value perm c (suc k) x p h = rw p (omega (arith, least_le (c (suc k)) (suc x) x (omega arith) (suc x) (omega arith) (omega arith), least_end (c (suc k)) (suc x), h (omega arith)))
 
 near_written : (perm : ℕ → ℕ → ℕ → Bool) (c : ℕ → ℕ → ℕ → ℕ) (m x : ℕ) → ((k : ℕ) → 1 ≤ k → k ≤ m → (perm k x (suc x) ≡ true) × (c k x (suc x) ≡ value perm c k x (suc x)))
     → (k : ℕ) → 1 ≤ k → k ≤ m → c k x (suc x) ≤ k
@@ -52,9 +52,9 @@ module _ (N : ℕ) (finest : List ℕ) (j top : ℕ) (hj : j < N) (ht : top ≤ 
         wrote_kept N (value (from_finest finest) (cell e N)) (Rows k j top) t e w (λ k' i' j' s. omega arith) l x (suc x) a (omega arith) (omega arith) (λ r. ⊎_elim (λ y. omega arith) (λ y. omega arith) s),
       )
 
-  rows-near : (l x : ℕ) → 1 ≤ l → l ≤ k → suc x < suc j → cell e N l x (suc x) ≤ l
+  rows_near : (l x : ℕ) → 1 ≤ l → l ≤ k → suc x < suc j → cell e N l x (suc x) ≤ l
   unfolding from_finest
-  rows-near l x a b d = elim (dec_lt (suc x) j) [
+  rows_near l x a b d = elim (dec_lt (suc x) j) [
     | yes y ↦ kept l x a b (omega arith) (inl y)
     | no y ↦ elim (dec_lt x top) [
       | no z ↦ kept l x a b (omega arith) (inr (omega arith))
@@ -64,8 +64,8 @@ module _ (N : ℕ) (finest : List ℕ) (j top : ℕ) (hj : j < N) (ht : top ≤ 
   ]
 
   -- the sums that the next row is written from
-  pub rows-small : m ≤ 16 → N ≤ 256 → (i : ℕ) → i ≤ j → below (cell e N) k i j ≤ 65534
-  rows-small p q i o = let h : below (cell e N) k i j < none = near-small (cell e N) k (suc j) rows-near (room k (suc j) (omega arith) (omega arith)) k i j (omega arith) o (omega arith) in omega arith
+  pub rows_small : m ≤ 16 → N ≤ 256 → (i : ℕ) → i ≤ j → below (cell e N) k i j ≤ 65534
+  rows_small p q i o = let h : below (cell e N) k i j < none = near_small (cell e N) k (suc j) rows_near (room k (suc j) (omega arith) (omega arith)) k i j (omega arith) o (omega arith) in omega arith
 
 -- while the ends of a call are written
 pub ends_settled : (N : ℕ) (perm : ℕ → ℕ → ℕ → Bool) → ((k i : ℕ) → perm k i (suc i) ≡ true) → (m v n j : ℕ) (t e : List ℕ) → j < n → n ≤ N → LowSteps t N m v n → Rewritten N perm (Named m v j) t e

@@ -36,14 +36,14 @@ number_one s j k (inr a) (inr b) =
     first_one 7 (104 < count s) (First 9 (count s < 2) (λ k. k ≡ 0)) (first_one 9 (count s < 2) (λ k. k ≡ 0) (λ j k x y. x ∙ sym y)) j k a.1 b.1
 
 module _ (s : List ℕ) (L M : ℕ → List ℕ) (one : L 1 ≡ M 1) (two : L 2 ≡ M 2) (three : L 3 ≡ M 3) where
-  lines-one : (n : ℕ) → sample_lines s L n ≡ sample_lines s M n
+  lines_one : (n : ℕ) → sample_lines s L n ≡ sample_lines s M n
   unfolding sample_lines ranks
-  lines-one zero = refl
-  lines-one (suc n) = rw (lines-one n, one, two, three)
+  lines_one zero = refl
+  lines_one (suc n) = rw (lines_one n, one, two, three)
 
-  levels-one : levels_text s L ≡ levels_text s M
+  levels_one : levels_text s L ≡ levels_text s M
   unfolding levels_text size
-  levels-one = rw (lines-one (count s), one, two, three)
+  levels_one = rw (lines_one (count s), one, two, three)
 
 pub day_one : {s t u : List ℕ} → DayText s t → DayText s u → t ≡ u
 day_one {s} T U =
@@ -54,7 +54,7 @@ day_one {s} T U =
           (let a = T.done (omega arith) in
           let b = U.done (omega arith) in
           let c = chosen_one _ 3 0 (count s - 1) a.0 b.0 a.1 b.1 in
-          a.2 ∙ levels-one s a.0 b.0 (c 1 (omega arith) (omega arith)) (c 2 (omega arith) (omega arith)) (c 3 (omega arith) (omega arith)) ∙ sym b.2)
+          a.2 ∙ levels_one s a.0 b.0 (c 1 (omega arith) (omega arith)) (c 2 (omega arith) (omega arith)) (c 3 (omega arith) (omega arith)) ∙ sym b.2)
     ]
 
 -- so any two reports of a file into a buffer leave the same bytes and end at the same place
@@ -92,31 +92,31 @@ good_day : (s : List ℕ) → DayNumber s 0 → (count s ≤ 104) × ((i : ℕ) 
 good_day s (inl a) = absurd (a.1 refl)
 good_day s (inr a) = (
   ⊎_elim (λ f. absurd (omega (arith, f.1))) (λ f. omega (arith, f.0)) a.1,
-  λ i h. placed s (16 * i) (((file_rows s a.0).row-0.0 refl).1 i h),
+  λ i h. placed s (16 * i) (((file_rows s a.0).row_0.0 refl).1 i h),
 )
 
 module _ (s : List ℕ) (L : ℕ → List ℕ) (few : count s ≤ 104) (good : (i : ℕ) → i < count s → Placed s (16 * i)) (C : DayLevels s L) where
-  lines-length : (n : ℕ) → n ≤ count s → length (sample_lines s L n) ≤ n * 20
+  lines_length : (n : ℕ) → n ≤ count s → length (sample_lines s L n) ≤ n * 20
   unfolding sample_lines
-  lines-length zero h = omega arith
-  lines-length (suc n) h =
+  lines_length zero h = omega arith
+  lines_length (suc n) h =
       let g = good n (omega arith) in
       let line = sample_line n (across s (16 * n)) (up s (16 * n)) (ranks L 3 n) in
       omega (
         arith,
         length-append (sample_lines s L n) line,
-        lines-length n (omega arith),
+        lines_length n (omega arith),
         sample_length n (across s (16 * n)) (up s (16 * n)) (ranks L 3 n) (omega arith) g.0 g.1
             (ranks_in L n 3 (λ ℓ a b. C.minimal.family.nested ℓ n a b)).0,
       )
 
-  text-length : length (levels_text s L) ≤ 4096
+  text_length : length (levels_text s L) ≤ 4096
   unfolding levels_text
-  text-length =
+  text_length =
       simp length-append
       (omega (
         arith,
-        lines-length (count s) (omega arith),
+        lines_length (count s) (omega arith),
         decimal_length (count s) 3 (omega arith) (omega arith),
         decimal_most (size L 3),
         decimal_most (length (L 1) - 1),
@@ -132,7 +132,7 @@ text_fits {s} {t} T = elim (dec_lt 0 T.number) [
       (let e : T.number ≡ 0 = omega arith in
       let D = T.done e in
       let g = good_day s (subst (DayNumber s) e T.given) in
-      rw D.2 (text-length s D.0 g.0 g.1 D.1))
+      rw D.2 (text_length s D.0 g.0 g.1 D.1))
 ]
 
 -- ---- so a buffer of 4,096 bytes holds the text

@@ -27,7 +27,7 @@ use Rattle.trace.specs.Calls.{sizes, StartGives, PutGives, buffers}
 use Rattle.sizes.specs.Rows.{tolerances_ok, tolerance_ok}
 use Rattle.trace.proofs.Calls.{done_refused}
 use Rattle.sizes.proofs.Decided.{tolerances_decided}
-use Rattle.trace.proofs.Formulas.{put-adds}
+use Rattle.trace.proofs.Formulas.{put_adds}
 use Rattle.history.specs.Run.{State, Call}
 use Rattle.history.specs.Run.Call.{put}
 use Rattle.history.specs.Run.Step.{puts}
@@ -74,18 +74,18 @@ stored z f xs n room held =
 
 module _ (s : List ℕ) (good : (pause_line_of s).outcome ≡ Done) (n : ℕ) {xs : Samples} {t : List ℕ} (F : Filled s n xs t) where
   module _ (few : n ≤ count s) where
-    pub filled-ranged : Ranged xs n
-    filled-ranged = record {
+    pub filled_ranged : Ranged xs n
+    filled_ranged = record {
       across = record { held = omega (arith, F.room, F.lent); each = λ q h. rw (F.across q h) (good_placed s good q (omega arith)).0 };
       up = record { held = omega (arith, F.room, F.lent); each = λ q h. rw (F.up q h) (good_placed s good q (omega arith)).1 };
     }
 
-    pub filled-sound : (ranks : List ℕ) → Sound (state (day_trace n) (buffers xs t) ranks)
-    filled-sound ranks = record {
+    pub filled_sound : (ranks : List ℕ) → Sound (state (day_trace n) (buffers xs t) ranks)
+    filled_sound ranks = record {
       few = omega arith;
       small = omega arith;
       held = F.room;
-      ranged = filled-ranged;
+      ranged = filled_ranged;
       marks = λ q h. rw (F.marks q h) (mark_small s q);
       costs = F.costs;
       setup = inr (sized, rising);
@@ -94,9 +94,9 @@ module _ (s : List ℕ) (good : (pause_line_of s).outcome ≡ Done) (n : ℕ) {x
   -- one record more: it is added, or there is no room
   module _ (more : n < count s) {r : Changed} {xs' : Samples} {t' : List ℕ}
       (G : PutGives (day_trace n) (buffers xs t) n (day_sample s n) r (buffers xs' t')) where
-    pub added-number : First 7 (n ≡ 104) (λ k. k ≡ 0) (code r.outcome)
-    added-number =
-        let S = filled-sound (omega arith) [] in
+    pub added_number : First 7 (n ≡ 104) (λ k. k ≡ 0) (code r.outcome)
+    added_number =
+        let S = filled_sound (omega arith) [] in
         let e : State = state r.trace (buffers xs' t') [] in
         first_same (λ p. p.1, λ z. (refl, z)) (first_passed (λ o. omega arith))
         (first_passed (λ m. m ((good_placed s good n more).0, (good_placed s good n more).1, mark_small s n))
@@ -104,9 +104,9 @@ module _ (s : List ℕ) (good : (pause_line_of s).outcome ≡ Done) (n : ℕ) {x
 
     pub filled_more : r.outcome ≡ Done → (r.trace ≡ day_trace (n + 1)) × Filled s (n + 1) xs' t'
     filled_more d =
-        let P = put-adds (day_trace n) (buffers xs t) n (day_sample s n) r (buffers xs' t') G d refl in
-        let room : n < 104 = ⊎_elim (λ a. absurd (omega (arith, ap code d, a.1))) (λ a. omega (arith, F.room, a.0)) added-number in
-        let S = step_sound {e = state (day_trace (n + 1)) (buffers xs' t') []} (filled-sound (omega arith) []) (puts G (sym P.trace) refl) in (
+        let P = put_adds (day_trace n) (buffers xs t) n (day_sample s n) r (buffers xs' t') G d refl in
+        let room : n < 104 = ⊎_elim (λ a. absurd (omega (arith, ap code d, a.1))) (λ a. omega (arith, F.room, a.0)) added_number in
+        let S = step_sound {e = state (day_trace (n + 1)) (buffers xs' t') []} (filled_sound (omega arith) []) (puts G (sym P.trace) refl) in (
           P.trace,
           record {
             room = omega arith;
@@ -123,9 +123,9 @@ module _ (s : List ℕ) (good : (pause_line_of s).outcome ≡ Done) (n : ℕ) {x
           },
         )
 
-    pub all-refused : (why : Refusal) → r.outcome ≡ Refused why → AddsAll s r xs' t'
-    all-refused why h = record {
-      number = ⊎_elim (λ a. inl (omega (arith, a.0), a.1)) (λ a. absurd (numbered why (ap code (sym h) ∙ a.1))) added-number;
+    pub all_refused : (why : Refusal) → r.outcome ≡ Refused why → AddsAll s r xs' t'
+    all_refused why h = record {
+      number = ⊎_elim (λ a. inl (omega (arith, a.0), a.1)) (λ a. absurd (numbered why (ap code (sym h) ∙ a.1))) added_number;
       done = λ d. done_refused d h;
     }
 

@@ -13,7 +13,7 @@ use Rattle.sample.specs.Samples.{Samples}
 use Rattle.sample.specs.Sweep.{Ranged}
 use Rattle.geometry.proofs.Permits.{Same}
 use Rattle.family.specs.Levels.{Chosen, levels}
-use Rattle.family.proofs.Choices.{chosen-levels}
+use Rattle.family.proofs.Choices.{chosen_levels}
 use Rattle.costs.specs.Costs.{Permit}
 use Rattle.permission.specs.Finest.{perm}
 use Rattle.permission.proofs.Perm.{perm_same}
@@ -38,13 +38,13 @@ module _ (s : List ℕ) (xs : Samples) (tols : List ℕ) (m n : ℕ) (ranged : R
     (across : (q : ℕ) → q < n → get_or xs.across q (pos 0) ≡ (day_sample s q).across)
     (up : (q : ℕ) → q < n → get_or xs.up q (pos 0) ≡ (day_sample s q).up)
     (marks : (q : ℕ) → q < n → get_or xs.marks q 0 ≡ (day_sample s q).mark) where
-  listed-range : (h : ℕ → ℤ) (zs : List ℤ) → InRange zs n → ((q : ℕ) → q < n → get_or zs q (pos 0) ≡ h q) → InRange (listed h n) n
-  listed-range h zs I e = record { held = omega (arith, listed_length h n); each = λ q o. rw (listed_at (pos 0) h n q o, ← e q o) (I.each q o) }
+  listed_range : (h : ℕ → ℤ) (zs : List ℤ) → InRange zs n → ((q : ℕ) → q < n → get_or zs q (pos 0) ≡ h q) → InRange (listed h n) n
+  listed_range h zs I e = record { held = omega (arith, listed_length h n); each = λ q o. rw (listed_at (pos 0) h n q o, ← e q o) (I.each q o) }
 
-  listed-ranged : Ranged (day_samples s n) n
-  listed-ranged = record {
-    across = listed-range (λ q. (day_sample s q).across) xs.across ranged.across across;
-    up = listed-range (λ q. (day_sample s q).up) xs.up ranged.up up;
+  listed_ranged : Ranged (day_samples s n) n
+  listed_ranged = record {
+    across = listed_range (λ q. (day_sample s q).across) xs.across ranged.across across;
+    up = listed_range (λ q. (day_sample s q).up) xs.up ranged.up up;
   }
 
   same : (i j : ℕ) → j < n → Same xs (day_samples s n) i j
@@ -57,10 +57,10 @@ module _ (s : List ℕ) (xs : Samples) (tols : List ℕ) (m n : ℕ) (ranged : R
   decides : (k i j : ℕ) → 1 ≤ k → k ≤ m → i < j → j < n → Decides (Permit (day_samples s n) tols k i j) (perm xs tols k i j)
   decides k i j a b o h =
       subst (Decides (Permit (day_samples s n) tols k i j)) (sym (perm_same xs (day_samples s n) tols k i j (same i j h)))
-      (permissions (day_samples s n) tols m n listed-ranged k i j a b o h)
+      (permissions (day_samples s n) tols m n listed_ranged k i j a b o h)
 
-  pub chosen-listed : 0 < n → (r : ℕ → ℕ) → ((x : ℕ) → x < n → r x ≤ m) → Chosen (Permit xs tols) m 0 (n - 1) (levels r 0 (n - 1))
+  pub chosen_listed : 0 < n → (r : ℕ → ℕ) → ((x : ℕ) → x < n → r x ≤ m) → Chosen (Permit xs tols) m 0 (n - 1) (levels r 0 (n - 1))
       → Chosen (Permit (day_samples s n) tols) m 0 (n - 1) (levels r 0 (n - 1))
-  chosen-listed some r high C =
-      (chosen-levels (Permit (day_samples s n) tols) (perm xs tols) m n decides some r high).0
-      ((chosen-levels (Permit xs tols) (perm xs tols) m n (permissions xs tols m n ranged) some r high).1 C)
+  chosen_listed some r high C =
+      (chosen_levels (Permit (day_samples s n) tols) (perm xs tols) m n decides some r high).0
+      ((chosen_levels (Permit xs tols) (perm xs tols) m n (permissions xs tols m n ranged) some r high).1 C)

@@ -22,11 +22,11 @@ placed s p h =
     not_refuted _ (both_decided _ _ (coordinate_decided (across s p)) (coordinate_decided (up s p))) (⊎_elim (λ a. absurd (omega (arith, a.1))) (λ a. a.0) h)
 
 module _ (s : List ℕ) (good : (pause_line_of s).outcome ≡ Done) where
-  pub good-given : FileGiven s 0
-  good-given = rw good at (file_given s)
+  pub good_given : FileGiven s 0
+  good_given = rw good at (file_given s)
 
-  pub good-sum : (pause_line_of s).sum ≡ pause_sum s (count s)
-  good-sum = rw (line_by_lem s, good) refl
+  pub good_sum : (pause_line_of s).sum ≡ pause_sum s (count s)
+  good_sum = rw (line_by_lem s, good) refl
 
   module _ (i : ℕ) (h : i < count s) where
     pub good_placed : Placed s (16 * i)

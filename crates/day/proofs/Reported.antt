@@ -33,9 +33,9 @@ use Rattle.lines.specs.Lines.{refused_line}
 use Rattle.lines.specs.Held.{held_text}
 use Rattle.day.specs.Day.{count, tolerances, DayNumber, DayLevels, Reported, levels_text}
 use Rattle.day.specs.Fill.{day_trace, Filled, AddsAll}
-use Rattle.day.proofs.Records.{good-given}
-use Rattle.day.proofs.Filled.{past_trace, filled-ranged, filled-sound}
-use Rattle.day.proofs.Listed.{chosen-listed}
+use Rattle.day.proofs.Records.{good_given}
+use Rattle.day.proofs.Filled.{past_trace, filled_ranged, filled_sound}
+use Rattle.day.proofs.Listed.{chosen_listed}
 use Rattle.day.proofs.Lines.{held_lines_lem}
 
 -- ---- refused
@@ -47,16 +47,16 @@ refused_text {k = k} g some W = (refused_line k, record { number = k; given = g;
 
 module _ {s out out' : List ℕ} {r : ℕ} {why : Refusal} where
   -- by the pause line
-  pub reported-file : (l : PauseLine) → l ≡ pause_line_of s → l.outcome ≡ Refused why
+  pub reported_file : (l : PauseLine) → l ≡ pause_line_of s → l.outcome ≡ Refused why
       → Written out 0 (refused_line (code l.outcome)) out' r → Reported s out out' r
-  reported-file l e h W =
+  reported_file l e h W =
       let g : FileGiven s (code l.outcome) = rw e (file_given s) in
       refused_text (inl (g, refusal_some h)) (refusal_some h) W
 
   -- by a put
-  pub reported-full : {c : Changed} {xs : Samples} {t : List ℕ} → (pause_line_of s).outcome ≡ Done → AddsAll s c xs t → c.outcome ≡ Refused why
+  pub reported_full : {c : Changed} {xs : Samples} {t : List ℕ} → (pause_line_of s).outcome ≡ Done → AddsAll s c xs t → c.outcome ≡ Refused why
       → Written out 0 (refused_line (code c.outcome)) out' r → Reported s out out' r
-  reported-full good A h W = refused_text (inr (good-given s good, ⊎_elim inl (λ a. absurd (refusal_some h a.1)) A.number)) (refusal_some h) W
+  reported_full good A h W = refused_text (inr (good_given s good, ⊎_elim inl (λ a. absurd (refusal_some h a.1)) A.number)) (refusal_some h) W
 
 -- ---- a day whose records are added, and read
 module _ (s : List ℕ) (good : (pause_line_of s).outcome ≡ Done) {xs : Samples} {t : List ℕ} (F : Filled s (count s) xs t) {bytes bytes' : List ℕ} {l : Levels}
@@ -64,19 +64,19 @@ module _ (s : List ℕ) (good : (pause_line_of s).outcome ≡ Done) {xs : Sample
   read_number : First 9 (count s < 2) (λ k. k ≡ 0) (code l.outcome)
   read_number =
       past_trace read (count s) F.room (omega (arith, F.lent), omega (arith, F.lent), omega (arith, F.room))
-      (step_number {e = state (day_trace (count s)) (buffers xs t) bytes'} (filled-sound s good (count s) F (omega arith) bytes) (reads G refl)) G.number
+      (step_number {e = state (day_trace (count s)) (buffers xs t) bytes'} (filled_sound s good (count s) F (omega arith) bytes) (reads G refl)) G.number
 
   fits : 104 < count s → ⊥
   fits h = omega (arith, F.room)
 
   -- refused by the read
-  pub reported-few : {out out' : List ℕ} {r : ℕ} {why : Refusal} → l.outcome ≡ Refused why
+  pub reported_few : {out out' : List ℕ} {r : ℕ} {why : Refusal} → l.outcome ≡ Refused why
       → Written out 0 (refused_line (code l.outcome)) out' r → Reported s out out' r
-  reported-few h W = refused_text (inr (good-given s good, inr (fits, read_number))) (refusal_some h) W
+  reported_few h W = refused_text (inr (good_given s good, inr (fits, read_number))) (refusal_some h) W
 
   module _ (d : l.outcome ≡ Done) where
     shown : Shown (state (day_trace (count s)) (buffers xs t) bytes') l
-    shown = sound_shown (filled-sound s good (count s) F (omega arith) bytes) (reads G refl) (ap code d)
+    shown = sound_shown (filled_sound s good (count s) F (omega arith) bytes) (reads G refl) (ap code d)
 
     given : First 9 (count s < 2) (λ k. k ≡ 0) 0
     given = rw d at read_number
@@ -87,14 +87,14 @@ module _ (s : List ℕ) (good : (pause_line_of s).outcome ≡ Done) {xs : Sample
     abbrev L : ℕ → List ℕ
     L = levels (rank bytes') 0 (count s - 1)
 
-    day-levels : DayLevels s L
-    day-levels =
-        chosen-listed s xs tolerances 3 (count s) (filled-ranged s good (count s) F (omega arith)) F.across F.up F.marks
+    day_levels : DayLevels s L
+    day_levels =
+        chosen_listed s xs tolerances 3 (count s) (filled_ranged s good (count s) F (omega arith)) F.across F.up F.marks
         (omega (arith, some)) (rank bytes') (G.done d).best.highest shown.chosen
 
-    day-text : held_text xs.across xs.up bytes' (count s) l.total l.segments (pause_sum s (count s)) ≡ levels_text s L
+    day_text : held_text xs.across xs.up bytes' (count s) l.total l.segments (pause_sum s (count s)) ≡ levels_text s L
     unfolding levels_text
-    day-text = rw (
+    day_text = rw (
       held_lines_lem s L xs.across xs.up bytes' (count s) F.across F.up
           (λ q h. sym (ranks_levels (rank bytes') 3 0 (count s - 1) q zero-le zero-le (omega arith) ((G.done d).best.highest q h))),
       shown.total,
@@ -104,10 +104,10 @@ module _ (s : List ℕ) (good : (pause_line_of s).outcome ≡ Done) {xs : Sample
     )
 
     -- the text of its levels
-    pub reported-day : {out out' : List ℕ} {r : ℕ}
+    pub reported_day : {out out' : List ℕ} {r : ℕ}
         → Written out 0 (held_text xs.across xs.up bytes' (count s) l.total l.segments (pause_sum s (count s))) out' r → Reported s out out' r
-    reported-day W = (
+    reported_day W = (
       levels_text s L,
-      record { number = 0; given = inr (good-given s good, inr (fits, given)); refused = λ n. absurd (n refl); done = λ z. (L, day-levels, refl) },
-      written_as day-text W,
+      record { number = 0; given = inr (good_given s good, inr (fits, given)); refused = λ n. absurd (n refl); done = λ z. (L, day_levels, refl) },
+      written_as day_text W,
     )

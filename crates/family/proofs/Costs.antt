@@ -1,4 +1,4 @@
--- The cells of a genuine table are the costs (`genuine-costs`), and a table whose cells are the costs is genuine (`costs_genuine`), and the least path over the cells of a level is the least total of a family (`below-least`, `below-some`).
+-- The cells of a genuine table are the costs (`genuine_costs`), and a table whose cells are the costs is genuine (`costs_genuine`), and the least path over the cells of a level is the least total of a family (`below_least`, `below_some`).
 -- Assumes nothing.
 use Prim.Native.Nat.{ℕ, zero, suc, ◌+◌, ◌-◌, ◌*◌, ◌≤◌, ◌<◌, zero-le}
 use mathlib.Core.Path.{◌≡◌, refl, sym, ◌∙◌}
@@ -11,51 +11,51 @@ use Rattle.family.specs.Family.{Family, Cost, Costs, cells, total, least, next, 
 use Rattle.family.specs.Lists.{none}
 use Rattle.family.specs.Fine.{Checked}
 use Rattle.family.proofs.Counts.{total_split, total_one, total_nil}
-use Rattle.family.proofs.Paths.{least-end, least-le, least-next, next-after, next-within}
-use Rattle.family.proofs.Checks.{checked-by, checked-small}
+use Rattle.family.proofs.Paths.{least_end, least_le, least_next, next_after, next_within}
+use Rattle.family.proofs.Checks.{checked_by, checked_small}
 use Rattle.family.proofs.Local.{genuine_same}
-use Rattle.family.proofs.Families.{walk, family-part, family-down, family-glue, family-lift}
+use Rattle.family.proofs.Families.{walk, family_part, family_down, family_glue, family_lift}
 
 module _ (perm : ℕ → ℕ → ℕ → Bool) (near : (k i : ℕ) → perm k i (suc i) ≡ true) (c : ℕ → ℕ → ℕ → ℕ) (m n : ℕ) (room : m * n < none) (genuine : Genuine perm c m n) where
-  pub cell-yes : (k i j : ℕ) → k < m → i < j → j < n → perm (suc k) i j ≡ true → c (suc k) i j ≡ suc (below c k i j)
+  pub cell_yes : (k i j : ℕ) → k < m → i < j → j < n → perm (suc k) i j ≡ true → c (suc k) i j ≡ suc (below c k i j)
   unfolding Genuine value
-  cell-yes k i j a b d e = genuine (suc k) i j (omega arith) a b d ∙ rw e
+  cell_yes k i j a b d e = genuine (suc k) i j (omega arith) a b d ∙ rw e
 
-  pub cell-no : (k i j : ℕ) → k < m → i < j → j < n → perm (suc k) i j ≡ false → c (suc k) i j ≡ none
+  pub cell_no : (k i j : ℕ) → k < m → i < j → j < n → perm (suc k) i j ≡ false → c (suc k) i j ≡ none
   unfolding Genuine value
-  cell-no k i j a b d e = genuine (suc k) i j (omega arith) a b d ∙ rw e
+  cell_no k i j a b d e = genuine (suc k) i j (omega arith) a b d ∙ rw e
 
   -- a cell that is not `none` is of a permitted stretch
-  pub cell-open : (k i j : ℕ) → k < m → i < j → j < n → c (suc k) i j < none → perm (suc k) i j ≡ true
-  cell-open k i j a b d h = go (perm (suc k) i j) refl
+  pub cell_open : (k i j : ℕ) → k < m → i < j → j < n → c (suc k) i j < none → perm (suc k) i j ≡ true
+  cell_open k i j a b d h = go (perm (suc k) i j) refl
     where
       go : (t : Bool) → perm (suc k) i j ≡ t → perm (suc k) i j ≡ true
       go true e = e
-      go false e = absurd (omega (arith, cell-no k i j a b d e))
+      go false e = absurd (omega (arith, cell_no k i j a b d e))
 
   -- the table passes check 5
-  pub genuine-checked : Checked c m n
+  pub genuine_checked : Checked c m n
   unfolding Genuine
-  genuine-checked = checked-by perm near c m n room (λ k i j a b o h. inr (genuine k i j a b o h))
+  genuine_checked = checked_by perm near c m n room (λ k i j a b o h. inr (genuine k i j a b o h))
 
   -- no family has a smaller total than the least path
-  pub below-least : (k i j : ℕ) (r : ℕ → ℕ) → k ≤ m → i ≤ j → j < n → Family perm k i j r → below c k i j ≤ total r k i j
+  pub below_least : (k i j : ℕ) (r : ℕ → ℕ) → k ≤ m → i ≤ j → j < n → Family perm k i j r → below c k i j ≤ total r k i j
   unfolding below
-  below-least zero i j r a b d F = zero-le
-  below-least (suc k) i j r a b d F =
+  below_least zero i j r a b d F = zero-le
+  below_least (suc k) i j r a b d F =
       walk r (suc k) j (λ p. i ≤ p → least (c (suc k)) p j ≤ total r (suc k) p j) F.last
-      (λ u. omega (arith, least-end (c (suc k)) j))
+      (λ u. omega (arith, least_end (c (suc k)) j))
       (λ p q N v f u.
       let o : p < q = N.order in
       let t : perm (suc k) p q ≡ true = F.permitted (suc k) p q (omega arith) (le_refl (suc k)) u v N in
       omega (
         arith,
-        least-le (c (suc k)) j p (omega arith) q o v,
+        least_le (c (suc k)) j p (omega arith) q o v,
         f (omega arith),
         total_split r (suc k) p q j (omega arith) v,
         total_one r k p q N,
-        cell-yes k p q a o (omega arith) t,
-        below-least k p q r (omega arith) (omega arith) (omega arith) (family-down perm k p q (family-part perm (suc k) i j p q u v N.left N.right F)),
+        cell_yes k p q a o (omega arith) t,
+        below_least k p q r (omega arith) (omega arith) (omega arith) (family_down perm k p q (family_part perm (suc k) i j p q u v N.left N.right F)),
       ))
       i b F.first (le_refl i)
 
@@ -67,7 +67,7 @@ module _ (perm : ℕ → ℕ → ℕ → Bool) (near : (k i : ℕ) → perm k i 
   none_yet k j = (
     (λ x. suc k),
     record { first = le_refl (suc k); last = le_refl (suc k); permitted = λ ℓ p q a b u v N. absurd (omega (arith, N.order)) },
-    (total_nil (λ x. suc k) (suc k) j ∙ sym (least-end (c (suc k)) j)),
+    (total_nil (λ x. suc k) (suc k) j ∙ sym (least_end (c (suc k)) j)),
   )
 
   -- families along the path of least sum
@@ -78,34 +78,34 @@ module _ (perm : ℕ → ℕ → ℕ → Bool) (near : (k i : ℕ) → perm k i 
     | no h ↦ (let q : i ≡ j = omega arith in rw q (none_yet k j))
     | yes h ↦
         (let q = next (c (suc k)) i j in
-        let u : i < q = next-after (c (suc k)) j i h in
-        let v : q ≤ j = next-within (c (suc k)) j i h in
-        let w = least-next (c (suc k)) j i h in
-        let t : perm (suc k) i q ≡ true = cell-open k i q a u (omega arith) (omega (arith, w, checked-small c m n genuine-checked room (suc k) i j a o b)) in
+        let u : i < q = next_after (c (suc k)) j i h in
+        let v : q ≤ j = next_within (c (suc k)) j i h in
+        let w = least_next (c (suc k)) j i h in
+        let t : perm (suc k) i q ≡ true = cell_open k i q a u (omega arith) (omega (arith, w, checked_small c m n genuine_checked room (suc k) i j a o b)) in
         let g = f i q (omega arith) (omega arith) in
-        let l = family-lift perm g.0 k i q u t g.1 in
+        let l = family_lift perm g.0 k i q u t g.1 in
         let s = along k a f d q j v (omega arith) b in
-        let x = family-glue perm l.0 s.0 (suc k) i q j (omega arith) v l.1 s.1 in
-        (x.0, x.1, omega (arith, x.2, l.3, g.2, s.2, w, cell-yes k i q a u (omega arith) t)))
+        let x = family_glue perm l.0 s.0 (suc k) i q j (omega arith) v l.1 s.1 in
+        (x.0, x.1, omega (arith, x.2, l.3, g.2, s.2, w, cell_yes k i q a u (omega arith) t)))
   ]
 
   -- some family has that total
-  pub below-some : (k i j : ℕ) → k ≤ m → i ≤ j → j < n → Some k i j
+  pub below_some : (k i j : ℕ) → k ≤ m → i ≤ j → j < n → Some k i j
   unfolding below total
-  below-some zero i j a b d = ((λ x. 0), record { first = zero-le; last = zero-le; permitted = λ ℓ p q g h u v N. absurd (omega arith) }, refl)
-  below-some (suc k) i j a b d = along k a (λ i j u v. below-some k i j (omega arith) u v) (j - i) i j b (omega arith) d
+  below_some zero i j a b d = ((λ x. 0), record { first = zero-le; last = zero-le; permitted = λ ℓ p q g h u v N. absurd (omega arith) }, refl)
+  below_some (suc k) i j a b d = along k a (λ i j u v. below_some k i j (omega arith) u v) (j - i) i j b (omega arith) d
 
   -- T1: every cell is the cost of its stretch
-  pub genuine-costs : Costs perm c m n
+  pub genuine_costs : Costs perm c m n
   unfolding Costs
-  genuine-costs zero i j a b u v = absurd (omega arith)
-  genuine-costs (suc k) i j a b u v = record {
-    refused = cell-no k i j b u v;
+  genuine_costs zero i j a b u v = absurd (omega arith)
+  genuine_costs (suc k) i j a b u v = record {
+    refused = cell_no k i j b u v;
     some = λ e.
-        (let f = below-some k i j (omega arith) (omega arith) v in
-        let l = family-lift perm f.0 k i j u e f.1 in
-        (l.0, l.1, l.2, omega (arith, l.3, f.2, cell-yes k i j b u v e)));
-    every = λ e r F N. omega (arith, cell-yes k i j b u v e, total_one r k i j N, below-least k i j r (omega arith) (omega arith) v (family-down perm k i j F));
+        (let f = below_some k i j (omega arith) (omega arith) v in
+        let l = family_lift perm f.0 k i j u e f.1 in
+        (l.0, l.1, l.2, omega (arith, l.3, f.2, cell_yes k i j b u v e)));
+    every = λ e r F N. omega (arith, cell_yes k i j b u v e, total_one r k i j N, below_least k i j r (omega arith) (omega arith) v (family_down perm k i j F));
   }
 
 -- a cell has one cost
@@ -130,8 +130,8 @@ pub costs_genuine : (perm : ℕ → ℕ → ℕ → Bool) → ((k i : ℕ) → p
 unfolding Costs
 costs_genuine perm near c m n room C =
     genuine_same perm perm (cells perm) c m n (λ k i j a b o h. refl)
-    (λ k i j a b o h. cost_unique perm k i j (cells perm k i j) (c k i j) (genuine-costs perm near (cells perm) m n room (cells_genuine perm m n) k i j a b o h) (C k i j a b o h))
+    (λ k i j a b o h. cost_unique perm k i j (cells perm k i j) (c k i j) (genuine_costs perm near (cells perm) m n room (cells_genuine perm m n) k i j a b o h) (C k i j a b o h))
     (cells_genuine perm m n)
 
 pub costs_checked : (perm : ℕ → ℕ → ℕ → Bool) → ((k i : ℕ) → perm k i (suc i) ≡ true) → (c : ℕ → ℕ → ℕ → ℕ) (m n : ℕ) → m * n < none → Costs perm c m n → Checked c m n
-costs_checked perm near c m n room C = genuine-checked perm near c m n room (costs_genuine perm near c m n room C)
+costs_checked perm near c m n room C = genuine_checked perm near c m n room (costs_genuine perm near c m n room C)

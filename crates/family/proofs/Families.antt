@@ -36,15 +36,15 @@ neighbours_same k ℓ p q h e N = record {
 }
 
 module _ (perm : ℕ → ℕ → ℕ → Bool) where
-  pub family-same : {r s : ℕ → ℕ} (k i j : ℕ) → i ≤ j → ((x : ℕ) → i ≤ x → x ≤ j → min (r x) k ≡ min (s x) k) → Family perm k i j r → Family perm k i j s
-  family-same k i j o e F = record {
+  pub family_same : {r s : ℕ → ℕ} (k i j : ℕ) → i ≤ j → ((x : ℕ) → i ≤ x → x ≤ j → min (r x) k ≡ min (s x) k) → Family perm k i j r → Family perm k i j s
+  family_same k i j o e F = record {
     first = omega (arith, e i (le_refl i) o, F.first);
     last = omega (arith, e j o (le_refl j), F.last);
     permitted = λ ℓ p q a b u v N. F.permitted ℓ p q a b u v (neighbours_same k ℓ p q b (λ x w z. e x (omega arith) (omega arith)) N);
   }
 
-  pub family-join : {r : ℕ → ℕ} (k i x j : ℕ) → Family perm k i x r → Family perm k x j r → Family perm k i j r
-  family-join {r} k i x j F G = record {
+  pub family_join : {r : ℕ → ℕ} (k i x j : ℕ) → Family perm k i x r → Family perm k x j r → Family perm k i j r
+  family_join {r} k i x j F G = record {
     first = F.first;
     last = G.last;
     permitted = λ ℓ p q a b u v N. elim (dec_le q x) [
@@ -57,15 +57,15 @@ module _ (perm : ℕ → ℕ → ℕ → Bool) where
   }
 
   -- a part of a family between two of its highest samples
-  pub family-part : {r : ℕ → ℕ} (k i j p q : ℕ) → i ≤ p → q ≤ j → k ≤ r p → k ≤ r q → Family perm k i j r → Family perm k p q r
-  family-part k i j p q a b u v F = record { first = u; last = v; permitted = λ ℓ p' q' g h w z N. F.permitted ℓ p' q' g h (omega arith) (omega arith) N }
+  pub family_part : {r : ℕ → ℕ} (k i j p q : ℕ) → i ≤ p → q ≤ j → k ≤ r p → k ≤ r q → Family perm k i j r → Family perm k p q r
+  family_part k i j p q a b u v F = record { first = u; last = v; permitted = λ ℓ p' q' g h w z N. F.permitted ℓ p' q' g h (omega arith) (omega arith) N }
 
-  pub family-down : {r : ℕ → ℕ} (k i j : ℕ) → Family perm (suc k) i j r → Family perm k i j r
-  family-down k i j F = record { first = omega (arith, F.first); last = omega (arith, F.last); permitted = λ ℓ p q g h w z N. F.permitted ℓ p q g (omega arith) w z N }
+  pub family_down : {r : ℕ → ℕ} (k i j : ℕ) → Family perm (suc k) i j r → Family perm k i j r
+  family_down k i j F = record { first = omega (arith, F.first); last = omega (arith, F.last); permitted = λ ℓ p q g h w z N. F.permitted ℓ p q g (omega arith) w z N }
 
   -- one more level, of the one segment from i to j
-  pub family-up : {r : ℕ → ℕ} (k i j : ℕ) → Neighbours r (suc k) i j → perm (suc k) i j ≡ true → Family perm k i j r → Family perm (suc k) i j r
-  family-up {r} k i j M t F = record {
+  pub family_up : {r : ℕ → ℕ} (k i j : ℕ) → Neighbours r (suc k) i j → perm (suc k) i j ≡ true → Family perm k i j r → Family perm (suc k) i j r
+  family_up {r} k i j M t F = record {
     first = M.left;
     last = M.right;
     permitted = λ ℓ p q g h w z N. elim (dec_le ℓ k) [
@@ -83,26 +83,26 @@ module _ (perm : ℕ → ℕ → ℕ → Bool) where
   glue : (ℕ → ℕ) → (ℕ → ℕ) → ℕ → ℕ → ℕ
   glue r s x y = cond (leb y x) (r y) (s y)
 
-  glue-left : (r s : ℕ → ℕ) (x y : ℕ) → y ≤ x → glue r s x y ≡ r y
+  glue_left : (r s : ℕ → ℕ) (x y : ℕ) → y ≤ x → glue r s x y ≡ r y
   unfolding glue
-  glue-left r s x y h = rw (le-leb y x h)
+  glue_left r s x y h = rw (le-leb y x h)
 
-  glue-right : (r s : ℕ → ℕ) (x y : ℕ) → x < y → glue r s x y ≡ s y
+  glue_right : (r s : ℕ → ℕ) (x y : ℕ) → x < y → glue r s x y ≡ s y
   unfolding glue
-  glue-right r s x y h = rw (lt-leb y x h)
+  glue_right r s x y h = rw (lt-leb y x h)
 
-  pub family-glue : (r s : ℕ → ℕ) (k i x j : ℕ) → i ≤ x → x ≤ j → Family perm k i x r → Family perm k x j s
+  pub family_glue : (r s : ℕ → ℕ) (k i x j : ℕ) → i ≤ x → x ≤ j → Family perm k i x r → Family perm k x j s
       → (t : ℕ → ℕ) × Family perm k i j t × (total t k i j ≡ total r k i x + total s k x j)
-  family-glue r s k i x j a b F G =
+  family_glue r s k i x j a b F G =
       let t = glue r s x in
-      let l : (y : ℕ) → y ≤ x → min (r y) k ≡ min (t y) k = λ y h. omega (arith, glue-left r s x y h) in
+      let l : (y : ℕ) → y ≤ x → min (r y) k ≡ min (t y) k = λ y h. omega (arith, glue_left r s x y h) in
       let g : (y : ℕ) → x ≤ y → min (s y) k ≡ min (t y) k =
       λ y h. elim (dec_lt x y) [
-        | yes u ↦ omega (arith, glue-right r s x y u)
-        | no u ↦ (let e : y ≡ x = omega arith in rw e (omega (arith, glue-left r s x x (le_refl x), F.last, G.first)))
+        | yes u ↦ omega (arith, glue_right r s x y u)
+        | no u ↦ (let e : y ≡ x = omega arith in rw e (omega (arith, glue_left r s x x (le_refl x), F.last, G.first)))
       ] in (
         t,
-        family-join k i x j (family-same k i x a (λ y u v. l y v) F) (family-same k x j b (λ y u v. g y u) G),
+        family_join k i x j (family_same k i x a (λ y u v. l y v) F) (family_same k x j b (λ y u v. g y u) G),
         (total_split t k i x j a b ∙ ap₂ ◌+◌ (total_same t r k i x (λ y u v. sym (l y v))) (total_same t s k x j (λ y u v. sym (g y (omega arith))))),
       )
 
@@ -110,38 +110,38 @@ module _ (perm : ℕ → ℕ → ℕ → Bool) where
   lift : (ℕ → ℕ) → ℕ → ℕ → ℕ → ℕ → ℕ
   lift r k i j y = cond (leb y i) (suc k) (cond (leb j y) (suc k) (min (r y) k))
 
-  lift-first : (r : ℕ → ℕ) (k i j : ℕ) → lift r k i j i ≡ suc k
+  lift_first : (r : ℕ → ℕ) (k i j : ℕ) → lift r k i j i ≡ suc k
   unfolding lift
-  lift-first r k i j = rw (le-leb i i (le_refl i))
+  lift_first r k i j = rw (le-leb i i (le_refl i))
 
-  lift-last : (r : ℕ → ℕ) (k i j : ℕ) → i < j → lift r k i j j ≡ suc k
+  lift_last : (r : ℕ → ℕ) (k i j : ℕ) → i < j → lift r k i j j ≡ suc k
   unfolding lift
-  lift-last r k i j h = rw (lt-leb j i h, le-leb j j (le_refl j))
+  lift_last r k i j h = rw (lt-leb j i h, le-leb j j (le_refl j))
 
-  lift-between : (r : ℕ → ℕ) (k i j y : ℕ) → i < y → y < j → lift r k i j y ≡ min (r y) k
+  lift_between : (r : ℕ → ℕ) (k i j y : ℕ) → i < y → y < j → lift r k i j y ≡ min (r y) k
   unfolding lift
-  lift-between r k i j y a b = rw (lt-leb y i a, lt-leb j y b)
+  lift_between r k i j y a b = rw (lt-leb y i a, lt-leb j y b)
 
-  pub family-lift : (r : ℕ → ℕ) (k i j : ℕ) → i < j → perm (suc k) i j ≡ true → Family perm k i j r
+  pub family_lift : (r : ℕ → ℕ) (k i j : ℕ) → i < j → perm (suc k) i j ≡ true → Family perm k i j r
       → (t : ℕ → ℕ) × Family perm (suc k) i j t × Neighbours t (suc k) i j × (total t (suc k) i j ≡ suc (total r k i j))
-  family-lift r k i j o e F =
+  family_lift r k i j o e F =
       let t = lift r k i j in
       let l : (y : ℕ) → i ≤ y → y ≤ j → min (r y) k ≡ min (t y) k =
       λ y a b. elim (dec_lt i y) [
         | yes u ↦ elim (dec_lt y j) [
-          | yes v ↦ omega (arith, lift-between r k i j y u v)
-          | no v ↦ (let q : y ≡ j = omega arith in rw q (omega (arith, lift-last r k i j o, F.last)))
+          | yes v ↦ omega (arith, lift_between r k i j y u v)
+          | no v ↦ (let q : y ≡ j = omega arith in rw q (omega (arith, lift_last r k i j o, F.last)))
         ]
-        | no u ↦ (let q : y ≡ i = omega arith in rw q (omega (arith, lift-first r k i j, F.first)))
+        | no u ↦ (let q : y ≡ i = omega arith in rw q (omega (arith, lift_first r k i j, F.first)))
       ] in
       let N : Neighbours t (suc k) i j = record {
         order = o;
-        left = omega (arith, lift-first r k i j);
-        right = omega (arith, lift-last r k i j o);
-        between = λ y a b. omega (arith, lift-between r k i j y a b);
+        left = omega (arith, lift_first r k i j);
+        right = omega (arith, lift_last r k i j o);
+        between = λ y a b. omega (arith, lift_between r k i j y a b);
       } in (
         t,
-        family-up k i j N e (family-same k i j (omega arith) l F),
+        family_up k i j N e (family_same k i j (omega arith) l F),
         N,
         (total_one t k i j N ∙ ap suc (total_same t r k i j (λ y a b. sym (l y (omega arith) b)))),
       )

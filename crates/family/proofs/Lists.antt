@@ -49,49 +49,49 @@ same_list (a ∷ u) (b ∷ v) x y R S e =
 
 -- the list of a level
 module _ (r : ℕ → ℕ) (ℓ : ℕ) where
-  pub numbers-yes : (x d : ℕ) → ℓ ≤ r x → numbers r ℓ x (suc d) ≡ x ∷ numbers r ℓ (suc x) d
+  pub numbers_yes : (x d : ℕ) → ℓ ≤ r x → numbers r ℓ x (suc d) ≡ x ∷ numbers r ℓ (suc x) d
   unfolding numbers
-  numbers-yes x d h = rw (le-leb ℓ (r x) h)
+  numbers_yes x d h = rw (le-leb ℓ (r x) h)
 
-  pub numbers-no : (x d : ℕ) → r x < ℓ → numbers r ℓ x (suc d) ≡ numbers r ℓ (suc x) d
+  pub numbers_no : (x d : ℕ) → r x < ℓ → numbers r ℓ x (suc d) ≡ numbers r ℓ (suc x) d
   unfolding numbers
-  numbers-no x d h = rw (lt-leb ℓ (r x) h)
+  numbers_no x d h = rw (lt-leb ℓ (r x) h)
 
-  pub numbers-rising : (d x : ℕ) → Rising x (numbers r ℓ x d)
-  numbers-rising zero x = unfold numbers in tt
-  numbers-rising (suc d) x = elim (dec_le ℓ (r x)) [
-    | yes y ↦ rw (numbers-yes x d y) (le_refl x, numbers-rising d (suc x))
-    | no y ↦ rw (numbers-no x d (omega arith)) (rising_down (suc x) x (numbers r ℓ (suc x) d) (omega arith) (numbers-rising d (suc x)))
+  pub numbers_rising : (d x : ℕ) → Rising x (numbers r ℓ x d)
+  numbers_rising zero x = unfold numbers in tt
+  numbers_rising (suc d) x = elim (dec_le ℓ (r x)) [
+    | yes y ↦ rw (numbers_yes x d y) (le_refl x, numbers_rising d (suc x))
+    | no y ↦ rw (numbers_no x d (omega arith)) (rising_down (suc x) x (numbers r ℓ (suc x) d) (omega arith) (numbers_rising d (suc x)))
   ]
 
-  pub numbers-skip : (d e x y : ℕ) → x ≤ y → x + d ≡ y + e → ((z : ℕ) → x ≤ z → z < y → r z < ℓ) → numbers r ℓ x d ≡ numbers r ℓ y e
-  numbers-skip zero e x y o f h = let a : x ≡ y = omega arith in let b : e ≡ 0 = omega arith in rw (a, b)
-  numbers-skip (suc d) e x y o f h = elim (dec_lt x y) [
-    | yes u ↦ numbers-no x d (h x (le_refl x) u) ∙ numbers-skip d e (suc x) y u (omega arith) (λ z a b. h z (omega arith) b)
+  pub numbers_skip : (d e x y : ℕ) → x ≤ y → x + d ≡ y + e → ((z : ℕ) → x ≤ z → z < y → r z < ℓ) → numbers r ℓ x d ≡ numbers r ℓ y e
+  numbers_skip zero e x y o f h = let a : x ≡ y = omega arith in let b : e ≡ 0 = omega arith in rw (a, b)
+  numbers_skip (suc d) e x y o f h = elim (dec_lt x y) [
+    | yes u ↦ numbers_no x d (h x (le_refl x) u) ∙ numbers_skip d e (suc x) y u (omega arith) (λ z a b. h z (omega arith) b)
     | no u ↦ (let a : x ≡ y = omega arith in let b : e ≡ suc d = omega arith in rw (a, b))
   ]
 
   -- it has the samples of rank at least ℓ, and no others
-  pub numbers-in : (d x z : ℕ) → x ≤ z → z < x + d → ℓ ≤ r z → In z (numbers r ℓ x d)
-  numbers-in zero x z a b h = absurd (omega arith)
-  numbers-in (suc d) x z a b h = elim (dec_lt x z) [
-    | no y ↦ (let e : z ≡ x = omega arith in rw (e, numbers-yes x d (rw e at h)) (here refl))
+  pub numbers_in : (d x z : ℕ) → x ≤ z → z < x + d → ℓ ≤ r z → In z (numbers r ℓ x d)
+  numbers_in zero x z a b h = absurd (omega arith)
+  numbers_in (suc d) x z a b h = elim (dec_lt x z) [
+    | no y ↦ (let e : z ≡ x = omega arith in rw (e, numbers_yes x d (rw e at h)) (here refl))
     | yes y ↦
-        (let t = numbers-in d (suc x) z y (omega arith) h in
+        (let t = numbers_in d (suc x) z y (omega arith) h in
         elim (dec_le ℓ (r x)) [
-          | yes u ↦ rw (numbers-yes x d u) (there t)
-          | no u ↦ rw (numbers-no x d (omega arith)) t
+          | yes u ↦ rw (numbers_yes x d u) (there t)
+          | no u ↦ rw (numbers_no x d (omega arith)) t
         ])
   ]
 
-  pub in-numbers : (d x z : ℕ) → In z (numbers r ℓ x d) → (x ≤ z) × (z < x + d) × (ℓ ≤ r z)
-  in-numbers zero x z h = unfold numbers in absurd (in-nil h)
-  in-numbers (suc d) x z h = elim (dec_le ℓ (r x)) [
-    | yes u ↦ elim (in-cons (rw (numbers-yes x d u) at h)) [
+  pub in_numbers : (d x z : ℕ) → In z (numbers r ℓ x d) → (x ≤ z) × (z < x + d) × (ℓ ≤ r z)
+  in_numbers zero x z h = unfold numbers in absurd (in-nil h)
+  in_numbers (suc d) x z h = elim (dec_le ℓ (r x)) [
+    | yes u ↦ elim (in-cons (rw (numbers_yes x d u) at h)) [
       | inl e ↦ rw e (le_refl x, omega arith, u)
-      | inr t ↦ (let w = in-numbers d (suc x) z t in (omega (arith, w.0), omega (arith, w.1), w.2))
+      | inr t ↦ (let w = in_numbers d (suc x) z t in (omega (arith, w.0), omega (arith, w.1), w.2))
     ]
-    | no u ↦ (let w = in-numbers d (suc x) z (rw (numbers-no x d (omega arith)) at h) in (omega (arith, w.0), omega (arith, w.1), w.2))
+    | no u ↦ (let w = in_numbers d (suc x) z (rw (numbers_no x d (omega arith)) at h) in (omega (arith, w.0), omega (arith, w.1), w.2))
   ]
 
 -- no two lists are each the larger

@@ -1,5 +1,5 @@
 -- What a cell's value depends on: the cells of the level below of stretches within its own, and its own permission. So a table stays genuine when a sample is
--- put at a place (`genuine_put`) and when the first samples go (`genuine-drop`). Assumes nothing.
+-- put at a place (`genuine_put`) and when the first samples go (`genuine_drop`). Assumes nothing.
 use Prim.Native.Nat.{ℕ, zero, suc, ◌+◌, ◌-◌, ◌≤◌, ◌<◌, min}
 use mathlib.Core.Path.{◌≡◌, refl, sym, ◌∙◌, ap₂}
 use mathlib.Core.Logic.{◌⊎◌, inl, inr}
@@ -10,29 +10,29 @@ use native.Mathlib.Nat.{le_refl, suc-add}
 use Rattle.family.specs.Family.{via, hop, least, least_by, next, below, value, Genuine, Read, Readout}
 
 module _ (c d : ℕ → ℕ → ℕ) (i j : ℕ) (same : (p q : ℕ) → i ≤ p → p < q → q ≤ j → c p q ≡ d p q) where
-  via-same : (p x e : ℕ) → x + e ≡ j → i ≤ p → p < x → via c p x e ≡ via d p x e
+  via_same : (p x e : ℕ) → x + e ≡ j → i ≤ p → p < x → via c p x e ≡ via d p x e
   unfolding via
-  via-same p x zero h a b = same p x a b (omega arith)
-  via-same p x (suc e) h a b = ap₂ min (ap₂ ◌+◌ (same p x a b (omega arith)) (via-same x (suc x) e (omega arith) (omega arith) (le_refl (suc x)))) (via-same p (suc x) e (omega arith) a (omega arith))
+  via_same p x zero h a b = same p x a b (omega arith)
+  via_same p x (suc e) h a b = ap₂ min (ap₂ ◌+◌ (same p x a b (omega arith)) (via_same x (suc x) e (omega arith) (omega arith) (le_refl (suc x)))) (via_same p (suc x) e (omega arith) a (omega arith))
 
-  hop-same : (p x e : ℕ) → x + e ≡ j → i ≤ p → p < x → hop c p x e ≡ hop d p x e
+  hop_same : (p x e : ℕ) → x + e ≡ j → i ≤ p → p < x → hop c p x e ≡ hop d p x e
   unfolding hop
-  hop-same p x zero h a b = refl
-  hop-same p x (suc e) h a b =
-      rw (same p x a b (omega arith), via-same x (suc x) e (omega arith) (omega arith) (le_refl (suc x)), via-same p (suc x) e (omega arith) a (omega arith), hop-same p (suc x) e (omega arith) a (omega arith))
+  hop_same p x zero h a b = refl
+  hop_same p x (suc e) h a b =
+      rw (same p x a b (omega arith), via_same x (suc x) e (omega arith) (omega arith) (le_refl (suc x)), via_same p (suc x) e (omega arith) a (omega arith), hop_same p (suc x) e (omega arith) a (omega arith))
 
-  least-by-same : (p e : ℕ) → p + e ≡ j → i ≤ p → least_by c p e ≡ least_by d p e
+  least_by_same : (p e : ℕ) → p + e ≡ j → i ≤ p → least_by c p e ≡ least_by d p e
   unfolding least_by
-  least-by-same p zero h a = refl
-  least-by-same p (suc e) h a = via-same p (suc p) e (omega arith) a (le_refl (suc p))
+  least_by_same p zero h a = refl
+  least_by_same p (suc e) h a = via_same p (suc p) e (omega arith) a (le_refl (suc p))
 
-  pub least-same : (p : ℕ) → i ≤ p → p ≤ j → least c p j ≡ least d p j
+  pub least_same : (p : ℕ) → i ≤ p → p ≤ j → least c p j ≡ least d p j
   unfolding least
-  least-same p a b = least-by-same p (j - p) (omega arith) a
+  least_same p a b = least_by_same p (j - p) (omega arith) a
 
-  pub next-same : (p : ℕ) → i ≤ p → p < j → next c p j ≡ next d p j
+  pub next_same : (p : ℕ) → i ≤ p → p < j → next c p j ≡ next d p j
   unfolding next
-  next-same p a b = hop-same p (suc p) (j - suc p) (omega arith) a (le_refl (suc p))
+  next_same p a b = hop_same p (suc p) (j - suc p) (omega arith) a (le_refl (suc p))
 
 -- the value of a cell
 pub value_same : (perm perm' : ℕ → ℕ → ℕ → Bool) (c d : ℕ → ℕ → ℕ → ℕ) (k i j : ℕ) → i < j → perm k i j ≡ perm' k i j
@@ -41,7 +41,7 @@ unfolding value below
 value_same perm perm' c d zero i j o e f = refl
 value_same perm perm' c d (suc zero) i j o e f = rw e
 value_same perm perm' c d (suc (suc k)) i j o e f =
-    rw (e, least-same (c (suc k)) (d (suc k)) i j (λ p q a b h. f (suc k) p q (omega arith) refl a b h) i (le_refl i) (omega arith))
+    rw (e, least_same (c (suc k)) (d (suc k)) i j (λ p q a b h. f (suc k) p q (omega arith) refl a b h) i (le_refl i) (omega arith))
 
 -- the stretch i to j is without the sample v
 abbrev pub Without : ℕ → ℕ → ℕ → Type 0
@@ -80,30 +80,30 @@ module _ (t : ℕ) where
   abbrev pub moved : {A : Type 0} → (ℕ → ℕ → A) → ℕ → ℕ → A
   moved c p q = c (p + t) (q + t)
 
-  via-moved : (c : ℕ → ℕ → ℕ) (p x e : ℕ) → via (moved c) p x e ≡ via c (p + t) (x + t) e
+  via_moved : (c : ℕ → ℕ → ℕ) (p x e : ℕ) → via (moved c) p x e ≡ via c (p + t) (x + t) e
   unfolding via
-  via-moved c p x zero = refl
-  via-moved c p x (suc e) = rw (via-moved c x (suc x) e, via-moved c p (suc x) e, suc-add x t)
+  via_moved c p x zero = refl
+  via_moved c p x (suc e) = rw (via_moved c x (suc x) e, via_moved c p (suc x) e, suc-add x t)
 
-  least-by-moved : (c : ℕ → ℕ → ℕ) (p e : ℕ) → least_by (moved c) p e ≡ least_by c (p + t) e
+  least_by_moved : (c : ℕ → ℕ → ℕ) (p e : ℕ) → least_by (moved c) p e ≡ least_by c (p + t) e
   unfolding least_by
-  least-by-moved c p zero = refl
-  least-by-moved c p (suc e) = via-moved c p (suc p) e ∙ rw (suc-add p t)
+  least_by_moved c p zero = refl
+  least_by_moved c p (suc e) = via_moved c p (suc p) e ∙ rw (suc-add p t)
 
-  pub least-moved : (c : ℕ → ℕ → ℕ) (p j : ℕ) → least (moved c) p j ≡ least c (p + t) (j + t)
+  pub least_moved : (c : ℕ → ℕ → ℕ) (p j : ℕ) → least (moved c) p j ≡ least c (p + t) (j + t)
   unfolding least
-  least-moved c p j = least-by-moved c p (j - p) ∙ (let e : j - p ≡ j + t - (p + t) = omega arith in rw e)
+  least_moved c p j = least_by_moved c p (j - p) ∙ (let e : j - p ≡ j + t - (p + t) = omega arith in rw e)
 
-  pub value-moved : (perm : ℕ → ℕ → ℕ → Bool) (c : ℕ → ℕ → ℕ → ℕ) (k i j : ℕ) → value (λ k. moved (perm k)) (λ k. moved (c k)) k i j ≡ value perm c k (i + t) (j + t)
+  pub value_moved : (perm : ℕ → ℕ → ℕ → Bool) (c : ℕ → ℕ → ℕ → ℕ) (k i j : ℕ) → value (λ k. moved (perm k)) (λ k. moved (c k)) k i j ≡ value perm c k (i + t) (j + t)
   unfolding value below
-  value-moved perm c zero i j = refl
-  value-moved perm c (suc zero) i j = refl
-  value-moved perm c (suc (suc k)) i j = rw (least-moved (c (suc k)) i j)
+  value_moved perm c zero i j = refl
+  value_moved perm c (suc zero) i j = refl
+  value_moved perm c (suc (suc k)) i j = rw (least_moved (c (suc k)) i j)
 
   -- the first t samples gone
-  pub genuine-drop : (perm : ℕ → ℕ → ℕ → Bool) (c : ℕ → ℕ → ℕ → ℕ) (m n : ℕ) → Genuine perm c m n → Genuine (λ k. moved (perm k)) (λ k. moved (c k)) m (n - t)
+  pub genuine_drop : (perm : ℕ → ℕ → ℕ → Bool) (c : ℕ → ℕ → ℕ → ℕ) (m n : ℕ) → Genuine perm c m n → Genuine (λ k. moved (perm k)) (λ k. moved (c k)) m (n - t)
   unfolding Genuine
-  genuine-drop perm c m n g k i j a b o h = g k (i + t) (j + t) a b (omega arith) (omega arith) ∙ sym (value-moved perm c k i j)
+  genuine_drop perm c m n g k i j a b o h = g k (i + t) (j + t) a b (omega arith) (omega arith) ∙ sym (value_moved perm c k i j)
 
 -- only the cells and permissions of stretches i < j < n count
 pub genuine_same : (perm perm' : ℕ → ℕ → ℕ → Bool) (c d : ℕ → ℕ → ℕ → ℕ) (m n : ℕ)
@@ -138,7 +138,7 @@ read_cells c d zero p q r e R = tt
 read_cells c d (suc k) p q r e R = λ a b u v N.
     let o : a < b = N.order in
     let t = R a b u v N in (
-      t.0 ∙ next-same (c (suc k)) (d (suc k)) p q (λ i j x y z. e (suc k) i j (omega arith) (le_refl (suc k)) x y z) a u (omega arith),
+      t.0 ∙ next_same (c (suc k)) (d (suc k)) p q (λ i j x y z. e (suc k) i j (omega arith) (le_refl (suc k)) x y z) a u (omega arith),
       read_cells c d k a b r (λ ℓ i j x y z w s. e ℓ i j x (omega arith) (omega arith) w (omega arith)) t.1,
     )
 

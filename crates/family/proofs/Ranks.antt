@@ -7,7 +7,7 @@ use native.Mathlib.Nat.{le_refl}
 use borrow.Author.Tests.{le-leb, lt-leb, lt-ltb, le-ltb}
 use Rattle.family.specs.Family.{next, Read, Readout, along, rank}
 use Rattle.family.specs.Lists.{Neighbours}
-use Rattle.family.proofs.Paths.{next-after, next-within}
+use Rattle.family.proofs.Paths.{next_after, next_within}
 use Rattle.family.proofs.Families.{neighbours_same}
 
 pub read_same : (c : ℕ → ℕ → ℕ → ℕ) (k p q : ℕ) (r s : ℕ → ℕ) → ((x : ℕ) → p ≤ x → x ≤ q → min (r x) k ≡ min (s x) k) → Read c k p q r → Read c k p q s
@@ -23,9 +23,9 @@ module _ (c : ℕ → ℕ → ℕ) (k : ℕ) (f : ℕ → ℕ → ℕ → ℕ) (
   at_first zero a x h = refl
   at_first (suc d) a x h = rw (le-leb x a h)
 
-  at-between : (d a x : ℕ) → a < x → x < next c a q → along c (suc k) f (suc d) a q x ≡ f a (next c a q) x
+  at_between : (d a x : ℕ) → a < x → x < next c a q → along c (suc k) f (suc d) a q x ≡ f a (next c a q) x
   unfolding along
-  at-between d a x g h = rw (lt-leb x a g, lt-ltb x (next c a q) h)
+  at_between d a x g h = rw (lt-leb x a g, lt-ltb x (next c a q) h)
 
   at_after : (d a x : ℕ) → a < x → next c a q ≤ x → along c (suc k) f (suc d) a q x ≡ along c (suc k) f d (next c a q) q x
   unfolding along
@@ -36,8 +36,8 @@ module _ (c : ℕ → ℕ → ℕ) (k : ℕ) (f : ℕ → ℕ → ℕ → ℕ) (
   at_last (suc d) a g h = elim (dec_lt a q) [
     | no n ↦ (let e : a ≡ q = omega arith in rw e (at_first (suc d) q q (le_refl q)))
     | yes y ↦
-        (let u = next-after c q a y in
-        let v = next-within c q a y in
+        (let u = next_after c q a y in
+        let v = next_within c q a y in
         at_after d a q y v ∙ at_last d (next c a q) v (omega arith))
   ]
 
@@ -46,7 +46,7 @@ module _ (c : ℕ → ℕ → ℕ) (k : ℕ) (f : ℕ → ℕ → ℕ → ℕ) (
   at_most (suc d) a x = elim (dec_le x a) [
     | yes y ↦ omega (arith, at_first (suc d) a x y)
     | no y ↦ elim (dec_lt x (next c a q)) [
-      | yes z ↦ omega (arith, at-between d a x (omega arith) z, low a (next c a q) x (omega arith) z)
+      | yes z ↦ omega (arith, at_between d a x (omega arith) z, low a (next c a q) x (omega arith) z)
       | no z ↦ omega (arith, at_after d a x (omega arith) (omega arith), at_most d (next c a q) x)
     ]
   ]
@@ -57,8 +57,8 @@ module _ (c : ℕ → ℕ → ℕ) (k : ℕ) (f : ℕ → ℕ → ℕ → ℕ) (
   stops (suc d) a g h i j u v N =
       let o : i < j = N.order in
       let b = next c a q in
-      let y : a < b = next-after c q a (omega arith) in
-      let z : b ≤ q = next-within c q a (omega arith) in
+      let y : a < b = next_after c q a (omega arith) in
+      let z : b ≤ q = next_within c q a (omega arith) in
       elim (dec_lt a i) [
         | no n ↦
             (let e : i ≡ a = omega arith in
@@ -68,14 +68,14 @@ module _ (c : ℕ → ℕ → ℕ) (k : ℕ) (f : ℕ → ℕ → ℕ → ℕ) (
             ] in
             let m : b ≤ j = elim (dec_le b j) [
               | yes w ↦ w
-              | no w ↦ absurd (omega (arith, N.right, at-between d a j (omega arith) (omega arith), low a b j (omega arith) (omega arith)))
+              | no w ↦ absurd (omega (arith, N.right, at_between d a j (omega arith) (omega arith), low a b j (omega arith) (omega arith)))
             ] in
             let t : j ≡ b = omega arith in
-            (rw e t, λ x w s. rw (e, t) (at-between d a x (omega arith) (omega arith))))
+            (rw e t, λ x w s. rw (e, t) (at_between d a x (omega arith) (omega arith))))
         | yes n ↦
             (let l : b ≤ i = elim (dec_le b i) [
               | yes w ↦ w
-              | no w ↦ absurd (omega (arith, N.left, at-between d a i n (omega arith), low a b i n (omega arith)))
+              | no w ↦ absurd (omega (arith, N.left, at_between d a i n (omega arith), low a b i n (omega arith)))
             ] in
             let t = stops d b z (omega arith) i j l v (record {
               order = o;

@@ -112,8 +112,8 @@ module _ (m n : ℕ) (r s : ℕ → ℕ) (f : Prefers m n r s) (g : Prefers m n 
   half : (x a b : ℕ) → a ≤ m → (1 ≤ a → a ≤ a → a ≤ b) → a ≤ b
   half x a b h t = elim (dec_le 1 a) [ yes y ↦ t y (le_refl a) | no y ↦ omega arith ]
 
-  pub same-ranks : ((x : ℕ) → x < n → r x ≤ m) → ((x : ℕ) → x < n → s x ≤ m) → (x : ℕ) → x < n → r x ≡ s x
-  same-ranks hr hs x v = le_antisymm
+  pub same_ranks : ((x : ℕ) → x < n → r x ≤ m) → ((x : ℕ) → x < n → s x ≤ m) → (x : ℕ) → x < n → r x ≡ s x
+  same_ranks hr hs x v = le_antisymm
       (half x (r x) (s x) (hr x v) (λ a b. (levels (suc m) (r x) (omega arith) a (hr x v) x v).0 b))
       (half x (s x) (r x) (hs x v) (λ a b. (levels (suc m) (s x) (omega arith) a (hs x v) x v).1 b))
 
@@ -125,7 +125,7 @@ readout_prefers c m n r s R L a b ℓ y u v w A B h =
 
 -- the read-out of a table is one, whatever the cells
 pub readout_unique : (c : ℕ → ℕ → ℕ → ℕ) (m n : ℕ) (r s : ℕ → ℕ) → Readout c m n r → Readout c m n s → (x : ℕ) → x < n → r x ≡ s x
-readout_unique c m n r s R S = same-ranks m n r s
+readout_unique c m n r s R S = same_ranks m n r s
     (readout_prefers c m n r s R (read_low c m 0 (n - 1) s S.read) (omega (arith, S.first)) (omega (arith, S.last)))
     (readout_prefers c m n s r S (read_low c m 0 (n - 1) r R.read) (omega (arith, R.first)) (omega (arith, R.last)))
     R.highest S.highest

@@ -109,7 +109,7 @@ module _ (perm : ℕ → ℕ → ℕ → Bool) where
   -- r is a family of the samples 0 to n-1 with the least total
   pub record Minimal (m n : ℕ) (r : ℕ → ℕ) : Type 0 where
     pub family : Family m 0 (n - 1) r
-    pub least-total : (s : ℕ → ℕ) → Family m 0 (n - 1) s → total r m 0 (n - 1) ≤ total s m 0 (n - 1)
+    pub least_total : (s : ℕ → ℕ) → Family m 0 (n - 1) s → total r m 0 (n - 1) ≤ total s m 0 (n - 1)
 
   -- and of those it is the choice of the rule for ties
   pub record Chosen (m n : ℕ) (r : ℕ → ℕ) : Type 0 where

@@ -12,7 +12,7 @@ pub data Path (c : ℕ → ℕ → ℕ) (j : ℕ) : ℕ → List ℕ → ℕ →
 pub record Best (c : ℕ → ℕ → ℕ) (p j : ℕ) (l : List ℕ) : Type 0 where
   pub sum : ℕ
   pub path : Path c j p l sum
-  pub least-sum : (k : List ℕ) (v : ℕ) → Path c j p k v → sum ≤ v
+  pub least_sum : (k : List ℕ) (v : ℕ) → Path c j p k v → sum ≤ v
   pub tie : (k : List ℕ) → Path c j p k sum → (l ≡ k) ⊎ Larger l k
 
 -- v is the least sum of a path from p to j

@@ -7,7 +7,7 @@ use native.Mathlib.Omega.{arith}
 use Rattle.algebra.proofs.Square.{two_mul_le}
 use Rattle.geometry.specs.declared.Nearest.TheVariants.{Beginning, End, Between}
 use Rattle.geometry.specs.Nearest.{NoneNearer, Lies, Exact}
-use Rattle.geometry.proofs.Exact.{attained-closest}
+use Rattle.geometry.proofs.Exact.{attained_closest}
 
 pub record Frame (M : ℕ → ℕ → ℕ) (U L P N C : ℕ) : Type 0 where
   pub scaled : (r s : ℕ) → M r s + 2 * (r * s * P) ≡ r * r * U + 2 * (r * s * N) + s * s * L
@@ -45,19 +45,19 @@ end_farther U W C d t h e g =
     omega (arith, ap (λ (x : ℕ). (d + t) * x) w, mul-le-mul l (mul-le-mul g g))
 
 module _ {M : ℕ → ℕ → ℕ} {U L P N C : ℕ} (f : Frame M U L P N C) where
-  at-begin : M 1 0 ≡ U
-  at-begin = omega (arith, f.scaled 1 0)
+  at_begin : M 1 0 ≡ U
+  at_begin = omega (arith, f.scaled 1 0)
 
   -- behind a: u·v ≤ 0
   module _ (h : P ≤ N) where
     behind : NoneNearer M U 1
     behind r s a b = omega (arith, f.scaled r s, mul-le-mul_left (r * s) h)
 
-    pub lies-beginning : Lies M Beginning
-    lies-beginning = attained-closest M U 1 1 0 (omega arith) behind (omega (arith, at-begin))
+    pub lies_beginning : Lies M Beginning
+    lies_beginning = attained_closest M U 1 1 0 (omega arith) behind (omega (arith, at_begin))
 
-    pub exact-beginning : Exact M (record { top = U; bottom = 1 })
-    exact-beginning = record { divides = omega arith; least = behind; s = 0; r = 1; along = omega arith; whole = omega arith; attained = omega (arith, at-begin) }
+    pub exact_beginning : Exact M (record { top = U; bottom = 1 })
+    exact_beginning = record { divides = omega arith; least = behind; s = 0; r = 1; along = omega arith; whole = omega arith; attained = omega (arith, at_begin) }
 
   -- past b: |v|² ≤ u·v; |q − b|² is M 1 1
   module _ (g : N < P) (h : N + L ≤ P) where
@@ -67,49 +67,49 @@ module _ {M : ℕ → ℕ → ℕ} {U L P N C : ℕ} (f : Frame M U L P N C) whe
         let k : r ≡ s + t = omega arith in
         omega (arith, rw (← k) at (past_least U L P N (M 1 1) (M r s) s t (omega (arith, f.scaled 1 1)) (rw (← k) (f.scaled r s)) h))
 
-    pub lies-end : Lies M End
-    lies-end = (
-      λ c. let n : M 1 0 * (1 * 1) ≤ M 1 1 * (1 * 1) = c 1 1 (omega arith) (omega arith) in omega (arith, at-begin, f.scaled 1 1),
-      attained-closest M (M 1 1) 1 1 1 (omega arith) past (omega arith),
+    pub lies_end : Lies M End
+    lies_end = (
+      λ c. let n : M 1 0 * (1 * 1) ≤ M 1 1 * (1 * 1) = c 1 1 (omega arith) (omega arith) in omega (arith, at_begin, f.scaled 1 1),
+      attained_closest M (M 1 1) 1 1 1 (omega arith) past (omega arith),
     )
 
-    pub exact-end : Exact M (record { top = M 1 1; bottom = 1 })
-    exact-end = record { divides = omega arith; least = past; s = 1; r = 1; along = omega arith; whole = omega arith; attained = omega arith }
+    pub exact_end : Exact M (record { top = M 1 1; bottom = 1 })
+    exact_end = record { divides = omega arith; least = past; s = 1; r = 1; along = omega arith; whole = omega arith; attained = omega arith }
 
   -- abreast: 0 < u·v < |v|²; the foot is the point d / L
   module _ (h : N < P) (k : P < N + L) where
     d : ℕ
     d = P - N
 
-    whole-P : N + d ≡ P
+    whole_p : N + d ≡ P
     unfolding d
-    whole-P = omega arith
+    whole_p = omega arith
 
     lag : L * U ≡ C + d * d
-    lag = dot_lagrange U L N C d (rw whole-P f.lagrange)
+    lag = dot_lagrange U L N C d (rw whole_p f.lagrange)
 
     sca : (r s : ℕ) → M r s + 2 * (r * s * d) ≡ r * r * U + s * s * L
-    sca r s = dot_scaled U L N d (M r s) r s (rw whole-P (f.scaled r s))
+    sca r s = dot_scaled U L N d (M r s) r s (rw whole_p (f.scaled r s))
 
-    at-foot : M L d ≡ L * C
-    at-foot = foot U L C d (M L d) lag (sca L d)
+    at_foot : M L d ≡ L * C
+    at_foot = foot U L C d (M L d) lag (sca L d)
 
     attained : M L d * L ≡ C * (L * L)
-    attained = omega (arith, ap (λ (x : ℕ). x * L) at-foot)
+    attained = omega (arith, ap (λ (x : ℕ). x * L) at_foot)
 
     abreast : NoneNearer M C L
     abreast r s a b = omega (arith, across U L C d (M r s) r s lag (sca r s))
 
-    pub lies-between : Lies M Between
-    lies-between = (
-      λ c. let n : M 1 0 * (L * L) ≤ M L d * (1 * 1) = c L d (omega (arith, whole-P)) (omega arith) in
-          omega (arith, ap (λ (x : ℕ). L * L * x) at-begin, at-foot, begin_farther U L C d lag (omega arith) (omega (arith, whole-P))),
-      λ c. let n : M 1 1 * (L * L) ≤ M L d * (1 * 1) = c L d (omega (arith, whole-P)) (omega arith) in
+    pub lies_between : Lies M Between
+    lies_between = (
+      λ c. let n : M 1 0 * (L * L) ≤ M L d * (1 * 1) = c L d (omega (arith, whole_p)) (omega arith) in
+          omega (arith, ap (λ (x : ℕ). L * L * x) at_begin, at_foot, begin_farther U L C d lag (omega arith) (omega (arith, whole_p))),
+      λ c. let n : M 1 1 * (L * L) ≤ M L d * (1 * 1) = c L d (omega (arith, whole_p)) (omega arith) in
           let t : ℕ = L - d in
-          let e : L ≡ d + t = omega (arith, whole-P) in
-          omega (arith, at-foot, rw (← e) at (end_farther U (M 1 1) C d t (rw (← e) lag) (omega (arith, sca 1 1)) (omega (arith, whole-P)))),
-      record { s = d; r = L; after = omega (arith, whole-P); before = omega (arith, whole-P); closest = attained-closest M C L L d (omega arith) abreast attained },
+          let e : L ≡ d + t = omega (arith, whole_p) in
+          omega (arith, at_foot, rw (← e) at (end_farther U (M 1 1) C d t (rw (← e) lag) (omega (arith, sca 1 1)) (omega (arith, whole_p)))),
+      record { s = d; r = L; after = omega (arith, whole_p); before = omega (arith, whole_p); closest = attained_closest M C L L d (omega arith) abreast attained },
     )
 
-    pub exact-between : Exact M (record { top = C; bottom = L })
-    exact-between = record { divides = omega arith; least = abreast; s = d; r = L; along = omega (arith, whole-P); whole = omega arith; attained = attained }
+    pub exact_between : Exact M (record { top = C; bottom = L })
+    exact_between = record { divides = omega arith; least = abreast; s = d; r = L; along = omega (arith, whole_p); whole = omega arith; attained = attained }

@@ -18,20 +18,20 @@ cancel k x y h g = le_of_mul-le-mul_left {k = k} (omega (arith, g)) h
 
 module _ (M : ℕ → ℕ → ℕ) where
   -- a point at which the least distance is attained is a nearest one
-  pub attained-closest : (t b r s : ℕ) → 1 ≤ b → NoneNearer M t b → M r s * b ≡ t * (r * r) → Closest M r s
-  attained-closest t b r s h n e v u o p = cancel b _ _ h (omega (arith, mul-le-mul_left (r * r) (n v u o p), ap (λ (x : ℕ). x * (v * v)) e))
+  pub attained_closest : (t b r s : ℕ) → 1 ≤ b → NoneNearer M t b → M r s * b ≡ t * (r * r) → Closest M r s
+  attained_closest t b r s h n e v u o p = cancel b _ _ h (omega (arith, mul-le-mul_left (r * r) (n v u o p), ap (λ (x : ℕ). x * (v * v)) e))
 
   -- the nearest point lies in one place
-  pub lies-one : (c k : Nearest) → Lies M c → Lies M k → c ≡ k
-  lies-one Beginning Beginning l m = refl
-  lies-one Beginning End l m = absurd (m.0 l)
-  lies-one Beginning Between l m = absurd (m.0 l)
-  lies-one End Beginning l m = absurd (l.0 m)
-  lies-one End End l m = refl
-  lies-one End Between l m = absurd (m.1 l.1)
-  lies-one Between Beginning l m = absurd (l.0 m)
-  lies-one Between End l m = absurd (l.1 m.1)
-  lies-one Between Between l m = refl
+  pub lies_one : (c k : Nearest) → Lies M c → Lies M k → c ≡ k
+  lies_one Beginning Beginning l m = refl
+  lies_one Beginning End l m = absurd (m.0 l)
+  lies_one Beginning Between l m = absurd (m.0 l)
+  lies_one End Beginning l m = absurd (l.0 m)
+  lies_one End End l m = refl
+  lies_one End Between l m = absurd (m.1 l.1)
+  lies_one Between Beginning l m = absurd (l.0 m)
+  lies_one Between End l m = absurd (l.1 m.1)
+  lies_one Between Between l m = refl
 
   -- any two squared distances are the same fraction
   no_more : (d f : Fraction) → Exact M d → Exact M f → d.top * f.bottom ≤ f.top * d.bottom
@@ -43,8 +43,8 @@ module _ (M : ℕ → ℕ → ℕ) where
   exact_one d f x y = le_antisymm (no_more d f x y) (no_more f d y x)
 
   -- a point is within reach exactly when top ≤ reach · bottom
-  pub exact-decides : (d : Fraction) (reach : ℕ) → Exact M d → Decides (Close M reach) (leb d.top (reach * d.bottom))
-  exact-decides d reach x =
+  pub exact_decides : (d : Fraction) (reach : ℕ) → Exact M d → Decides (Close M reach) (leb d.top (reach * d.bottom))
+  exact_decides d reach x =
       by_test _ _ _
       (λ (h : d.top ≤ reach * d.bottom). record {
         s = x.s;

@@ -50,8 +50,8 @@ pub same_back : {xs vs : Samples} {i j : ℕ} → Same xs vs i j → Same vs xs 
 same_back h = record { across = λ k a b. sym (h.across k a b); up = λ k a b. sym (h.up k a b); marks = λ k a b. ((h.marks k a b).1, (h.marks k a b).0) }
 
 module _ (xs vs : Samples) (i j : ℕ) (h : Same xs vs i j) where
-  pub passable-same : {e : ℕ} (k : ℕ) → i < k → k < j → Passable xs i j e k → Passable vs i j e k
-  passable-same k a b p =
+  pub passable_same : {e : ℕ} (k : ℕ) → i < k → k < j → Passable xs i j e k → Passable vs i j e k
+  passable_same k a b p =
       let l = le_of_lt a in
       let r = le_of_lt b in
       let o : i ≤ j = le_trans l r in (
@@ -59,12 +59,12 @@ module _ (xs vs : Samples) (i j : ℕ) (h : Same xs vs i j) where
         rw (← h.across i (le_refl i) o, ← h.up i (le_refl i) o, ← h.across j o (le_refl j), ← h.up j o (le_refl j), ← h.across k l r, ← h.up k l r) p.1,
       )
 
-  pub permitted-same : {e : ℕ} → Permitted xs i j e → Permitted vs i j e
-  permitted-same p = record { each = λ k a b. passable-same k a b (p.each k a b) }
+  pub permitted_same : {e : ℕ} → Permitted xs i j e → Permitted vs i j e
+  permitted_same p = record { each = λ k a b. passable_same k a b (p.each k a b) }
 
 pub permits_same : (xs vs : Samples) (i j e : ℕ) → Same xs vs i j → permits xs i j e ≡ permits vs i j e
 permits_same xs vs i j e h =
-    decides_unique _ _ (permits_told xs i j e) (carry (permitted-same vs xs i j (same_back h)) (permitted-same xs vs i j h) (permits_told vs i j e))
+    decides_unique _ _ (permits_told xs i j e) (carry (permitted_same vs xs i j (same_back h)) (permitted_same xs vs i j h) (permits_told vs i j e))
 
 -- at no tolerance is a stretch permitted that passes over a marked sample
 pub marked_stops : {xs : Samples} {i j e q : ℕ} → Marked xs.marks q → i < q → q < j → Permitted xs i j e → ⊥

@@ -44,22 +44,22 @@ abbrev pub aft : ℤ → ℤ → ℤ → ℤ → ℕ
 aft dx dy px py = less px dx + less py dy
 
 module _ (dx dy px py : ℤ) where
-  pub dot-is : Is (dot dx dy px py) (fore dx dy px py) (aft dx dy px py)
-  dot-is = is_plus _ _ _ _ _ _ (times px dx) (times py dy)
+  pub dot_is : Is (dot dx dy px py) (fore dx dy px py) (aft dx dy px py)
+  dot_is = is_plus _ _ _ _ _ _ (times px dx) (times py dy)
 
-  cross-is : Is (cross dx dy px py) (more px dy + less py dx) (less px dy + more py dx)
-  cross-is = is_minus _ _ _ _ _ _ (times px dy) (times py dx)
+  cross_is : Is (cross dx dy px py) (more px dy + less py dx) (less px dy + more py dx)
+  cross_is = is_minus _ _ _ _ _ _ (times px dy) (times py dx)
 
   products : sq (dot dx dy px py) + sq (cross dx dy px py) ≡ sq px * sq dx + sq py * sq dy + (sq px * sq dy + sq py * sq dx)
   products =
       both _ _ _ _ _ _ _ _ _ _
-      (square_sum _ _ _ _ _ _ _ (is_sq _ _ _ dot-is) (part_mul px dx) (part_mul py dy))
-      (square_sum _ _ _ _ _ _ _ (is_sq _ _ _ cross-is) (part_mul px dy) (square_swap _ _ _ (part_mul py dx)))
+      (square_sum _ _ _ _ _ _ _ (is_sq _ _ _ dot_is) (part_mul px dx) (part_mul py dy))
+      (square_sum _ _ _ _ _ _ _ (is_sq _ _ _ cross_is) (part_mul px dy) (square_swap _ _ _ (part_mul py dx)))
       (exchange (up px) (dn px) (up dx) (dn dx) (up py) (dn py) (up dy) (dn dy))
 
   lagrange : (sq dx + sq dy) * (sq px + sq py) + 2 * (fore dx dy px py * aft dx dy px py)
       ≡ sq (cross dx dy px py) + fore dx dy px py * fore dx dy px py + aft dx dy px py * aft dx dy px py
-  lagrange = joined _ _ _ _ _ _ _ _ products (is_sq _ _ _ dot-is)
+  lagrange = joined _ _ _ _ _ _ _ _ products (is_sq _ _ _ dot_is)
     where
       joined : (u v w t m c f g : ℕ) → m + c ≡ u * v + w * t + (u * t + w * v) → Square m f g → (v + t) * (u + w) + 2 * (f * g) ≡ c + f * f + g * g
       joined u v w t m c f g h j = omega arith

@@ -19,7 +19,7 @@ use Rattle.sample.specs.Samples.{Samples}
 use Rattle.geometry.specs.Spoiler.{Clear, Spoiler, Told, Says, is_yes}
 use Rattle.sample.specs.Sweep.{Ranged}
 use Rattle.geometry.specs.Test.{lowest, judged, permits}
-use Rattle.geometry.proofs.Link.{decides-near}
+use Rattle.geometry.proofs.Link.{decides_near}
 
 -- ---- the spoiler
 lowest_le : {P : ℕ → Type 0} {i j k l : ℕ} → Spoiler P i j k → Spoiler P i j l → k ≤ l
@@ -56,15 +56,15 @@ module _ (xs : Samples) (i j e : ℕ) where
   says_one (No k) (No l) s t = ap No (spoiler_one s t)
 
   -- yes exactly when the stretch is permitted, and no with k exactly when k is the spoiler
-  pub says-yes : (v : Verdict) → Says xs i j e v → (v ≡ Yes) ↔ Permitted xs i j e
-  says-yes v s = (λ h. rw h at s, λ p. says_one v Yes s p)
+  pub says_yes : (v : Verdict) → Says xs i j e v → (v ≡ Yes) ↔ Permitted xs i j e
+  says_yes v s = (λ h. rw h at s, λ p. says_one v Yes s p)
 
-  pub says-no : (v : Verdict) (k : ℕ) → Says xs i j e v → (v ≡ No k) ↔ Spoiler (Passable xs i j e) i j k
-  says-no v k s = (λ h. rw h at s, λ t. says_one v (No k) s t)
+  pub says_no : (v : Verdict) (k : ℕ) → Says xs i j e v → (v ≡ No k) ↔ Spoiler (Passable xs i j e) i j k
+  says_no v k s = (λ h. rw h at s, λ t. says_one v (No k) s t)
 
-  pub says-decides : (v : Verdict) → Says xs i j e v → Decides (Permitted xs i j e) (is_yes v)
-  says-decides Yes p = yes_decides p
-  says-decides (No k) s = no_decides (spoiled s)
+  pub says_decides : (v : Verdict) → Says xs i j e v → Decides (Permitted xs i j e) (is_yes v)
+  says_decides Yes p = yes_decides p
+  says_decides (No k) s = no_decides (spoiled s)
 
 -- ---- the answer by computing
 -- a sample that is not marked, and of which a test decides a statement
@@ -95,7 +95,7 @@ pub judged_told : (xs : Samples) (i j e : ℕ) → Says xs i j e (judged xs i j 
 unfolding judged
 judged_told xs i j e =
     by (judged xs i j e)
-    (lowest_told (Passable xs i j e) _ i j (j - suc i) refl (λ k a b. unmarked_and xs.marks k _ decides-near))
+    (lowest_told (Passable xs i j e) _ i j (j - suc i) refl (λ k a b. unmarked_and xs.marks k _ decides_near))
   where
     by : (v : Verdict) → Told (Passable xs i j e) i j v → Says xs i j e v
     by Yes c = record { each = c }
@@ -103,7 +103,7 @@ judged_told xs i j e =
 
 pub permits_told : (xs : Samples) (i j e : ℕ) → Decides (Permitted xs i j e) (permits xs i j e)
 unfolding permits
-permits_told xs i j e = says-decides xs i j e (judged xs i j e) (judged_told xs i j e)
+permits_told xs i j e = says_decides xs i j e (judged xs i j e) (judged_told xs i j e)
 
 -- the same, as it is asked for above: of a stretch in range, which it does not need
 pub judged_says : (xs : Samples) (i j e : ℕ) → Ranged xs (j + 1) → i < j → Says xs i j e (judged xs i j e)

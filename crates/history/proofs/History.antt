@@ -25,11 +25,11 @@ use Rattle.sizes.specs.Setup.{held_with}
 use Rattle.trace.specs.Calls.{Buffers, Put, PutGives, holding}
 use Rattle.trace.specs.Upload as upload
 use Rattle.trace.specs.Upload.{zipped, Puts}
-use Rattle.trace.specs.Upload.Puts.{all-taken, one-refused, one-taken}
+use Rattle.trace.specs.Upload.Puts.{all_taken, one_refused, one_taken}
 use Rattle.trace.proofs.Calls.{buffers_is}
 use Rattle.trace.proofs.Exists.{start_some, put_some, upload_some, ask_some, read_some}
 use Rattle.trace.proofs.Unique.{start_one, put_one, upload_one, ask_one, read_one}
-use Rattle.trace.proofs.Formulas.{put-adds}
+use Rattle.trace.proofs.Formulas.{put_adds}
 use Rattle.trace.proofs.Added.{puts_leave, upload_leaves, upload_firsts}
 use Rattle.history.specs.Run.{State, Call, Answer, Step, Run, answered}
 use Rattle.history.specs.Run.Call.{start, put, upload, ask, read}
@@ -50,29 +50,29 @@ sound {s} (next p R) = run_sound (started_sound {s = s} p) R
 
 module _ {s e : State} {m N : ℕ} {tols : List ℕ} {cs : List Call} {rs : List Answer} where
   -- every held cost is the one the definition gives for the samples as they then stand
-  pub demand-3 : Run s (start m N tols ∷ cs) rs e → CostsHeld e
-  demand-3 R = (sound R).costs
+  pub demand_3 : Run s (start m N tols ∷ cs) rs e → CostsHeld e
+  demand_3 R = (sound R).costs
 
   -- and a read, which changes neither samples nor setup (`step_changes`), gives the levels of their chosen minimal family and the counts of these
-  pub demand-2 : {f : State} {r : Levels} → Run s (start m N tols ∷ cs) rs e → Step e f read (levels r) → answered (levels r) ≡ 0 → Shown f r
-  demand-2 R p h = sound_shown (sound R) p h
+  pub demand_2 : {f : State} {r : Levels} → Run s (start m N tols ∷ cs) rs e → Step e f read (levels r) → answered (levels r) ≡ 0 → Shown f r
+  demand_2 R p h = sound_shown (sound R) p h
 
   -- in which every marked sample has rank m: it is held at every level, as in every family of the samples (`family_keeps`)
-  pub restarts-kept : {f : State} {r : Levels} → Run s (start m N tols ∷ cs) rs e → Step e f read (levels r) → answered (levels r) ≡ 0 → MarksRanked f
-  restarts-kept R p h = sound_marked (sound R) p h
+  pub restarts_kept : {f : State} {r : Levels} → Run s (start m N tols ∷ cs) rs e → Step e f read (levels r) → answered (levels r) ≡ 0 → MarksRanked f
+  restarts_kept R p h = sound_marked (sound R) p h
 
   possible : {f : State} {c : Call} {r : Answer} → Run s (start m N tols ∷ cs) rs e → Step e f c r → (k : ℕ) → answered r ≡ k → Possible c k
   possible {c = c} R p k h = subst (Possible c) h (step_number (sound R) p)
 
   -- so no call is refused with 4 or 5, and none but a start with 2
-  pub never-5 : {f : State} {c : Call} {r : Answer} → Run s (start m N tols ∷ cs) rs e → Step e f c r → answered r ≡ 5 → ⊥
-  never-5 R p h = true≢false (possible R p 5 h)
+  pub never_5 : {f : State} {c : Call} {r : Answer} → Run s (start m N tols ∷ cs) rs e → Step e f c r → answered r ≡ 5 → ⊥
+  never_5 R p h = true≢false (possible R p 5 h)
 
-  pub never-4 : {f : State} {c : Call} {r : Answer} → Run s (start m N tols ∷ cs) rs e → Step e f c r → answered r ≡ 4 → ⊥
-  never-4 R p h = true≢false (possible R p 4 h)
+  pub never_4 : {f : State} {c : Call} {r : Answer} → Run s (start m N tols ∷ cs) rs e → Step e f c r → answered r ≡ 4 → ⊥
+  never_4 R p h = true≢false (possible R p 4 h)
 
-  pub never-2 : {f : State} {c : Call} {r : Answer} → Run s (start m N tols ∷ cs) rs e → Step e f c r → on_trace c ≡ true → answered r ≡ 2 → ⊥
-  never-2 R p o h = true≢false (rw o at (possible R p 2 h))
+  pub never_2 : {f : State} {c : Call} {r : Answer} → Run s (start m N tols ∷ cs) rs e → Step e f c r → on_trace c ≡ true → answered r ≡ 2 → ⊥
+  never_2 R p o h = true≢false (rw o at (possible R p 2 h))
 
 -- ---- what a call changes
 set_kept : {A : Type 0} {d : A} {v : ℕ} {s e : List A} (x : A) → e ≡ set s v x → KeptBut d (λ q. q ≡ v) s e
@@ -120,15 +120,15 @@ touched_on {e = e} f g x y T U = record {
 -- samples put one by one: the places and the stretches of each are among those of all
 puts_touched : {a : Trace} {b e : Buffers} {ranks : List ℕ} {zs : List Sample} {r : Uploaded} → Puts a b zs r e
     → Touched (Between a.held r.trace.held) (Ending a.levels a.held r.trace.held) (state a b ranks) (state r.trace e ranks)
-puts_touched all-taken = not_touched refl
-puts_touched (one-refused {why = why} G h) = not_touched (not_put (G.refused why h) refl refl)
-puts_touched {a} {b} {ranks = ranks} (one-taken {c = c} {x = x} {r = r} {q = q} G h P) =
-    let n : r.trace.held ≡ a.held + 1 = ap (λ (c : Trace). c.held) (put-adds a b a.held x r c G h refl).trace in
-    let m : r.trace.levels ≡ a.levels = ap (λ (c : Trace). c.levels) (put-adds a b a.held x r c G h refl).trace in
+puts_touched all_taken = not_touched refl
+puts_touched (one_refused {why = why} G h) = not_touched (not_put (G.refused why h) refl refl)
+puts_touched {a} {b} {ranks = ranks} (one_taken {c = c} {x = x} {r = r} {q = q} G h P) =
+    let n : r.trace.held ≡ a.held + 1 = ap (λ (c : Trace). c.held) (put_adds a b a.held x r c G h refl).trace in
+    let m : r.trace.levels ≡ a.levels = ap (λ (c : Trace). c.levels) (put_adds a b a.held x r c G h refl).trace in
     let l : q.trace.held ≡ r.trace.held + q.added = ap (λ (c : Trace). c.held) (puts_leave P).trace in
     touched_on (λ p z. omega arith) (λ p z. omega arith)
     (λ k i j z. (z.0, z.1, z.4, (omega arith, omega arith))) (λ k i j z. (z.0, omega arith, z.2, (omega arith, omega arith)))
-    (put_touched (state a b ranks) (state r.trace c ranks) a.held (a.held + 1) x r (put-adds a b a.held x r c G h refl) refl refl) (puts_touched P)
+    (put_touched (state a b ranks) (state r.trace c ranks) a.held (a.held + 1) x r (put_adds a b a.held x r c G h refl) refl refl) (puts_touched P)
 
 pub step_changes : {s e : State} {c : Call} {r : Answer} → Step s e c r → MayChange c s e
 step_changes (starts G t l k) = (l, k)
@@ -159,11 +159,11 @@ step_held (reads G t) = rw t refl
 
 -- ---- an upload is its puts: those of the samples before its stop, at places n on, lead to the same state and count the same cells
 puts_run : {a : Trace} {b e : Buffers} {zs : List Sample} {r : Uploaded} (ranks : List ℕ) → Puts a b zs r e → AsPuts (state a b ranks) (state r.trace e ranks) zs r
-puts_run ranks all-taken = record { answers = []; run = none; cells = refl }
-puts_run ranks (one-refused {why = why} G h) = let N = G.refused why h in rw (N.trace, N.lent) (record { answers = []; run = none; cells = refl })
-puts_run {a} {b} {e} ranks (one-taken {c = c} {x = x} {xs = xs} {r = r} {q = q} G h P) =
+puts_run ranks all_taken = record { answers = []; run = none; cells = refl }
+puts_run ranks (one_refused {why = why} G h) = let N = G.refused why h in rw (N.trace, N.lent) (record { answers = []; run = none; cells = refl })
+puts_run {a} {b} {e} ranks (one_taken {c = c} {x = x} {xs = xs} {r = r} {q = q} G h P) =
     let R = puts_run ranks P in
-    let n : r.trace.held ≡ suc a.held = ap (λ (c : Trace). c.held) (put-adds a b a.held x r c G h refl).trace ∙ add-one a.held in
+    let n : r.trace.held ≡ suc a.held = ap (λ (c : Trace). c.held) (put_adds a b a.held x r c G h refl).trace ∙ add-one a.held in
     let run = subst (λ m. Run (state r.trace c ranks) (puts_from m (take q.added xs)) (map changed R.answers) (state q.trace e ranks)) n R.run in
     record { answers = r ∷ R.answers; run = next (puts G refl refl) run; cells = rw R.cells refl }
 

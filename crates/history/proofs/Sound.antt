@@ -15,7 +15,7 @@ use Rattle.sample.specs.Mark.{Mark}
 use Rattle.sample.specs.declared.Sample.{Sample}
 use Rattle.sample.specs.Samples.{Samples}
 use Rattle.sample.specs.Sweep.{Ranged}
-use Rattle.costs.proofs.Meaning.{put-costs}
+use Rattle.costs.proofs.Meaning.{put_costs}
 use Rattle.trace.specs.declared.Trace.{Trace}
 use Rattle.trace.specs.declared.Changed.{Changed}
 use Rattle.trace.specs.declared.Uploaded.{Uploaded}
@@ -25,7 +25,7 @@ use Rattle.sizes.specs.Setup.{kept}
 use Rattle.sizes.specs.Setup.{held_with}
 use Rattle.trace.specs.Calls.{sizes, Buffers, Put, NotPut, PutGives}
 use Rattle.trace.specs.Upload.{zipped, not_uploaded, Puts, UploadGives}
-use Rattle.trace.specs.Upload.Puts.{all-taken, one-refused, one-taken}
+use Rattle.trace.specs.Upload.Puts.{all_taken, one_refused, one_taken}
 use Rattle.checks.proofs.Decided.{lists_decided}
 use Rattle.checks.proofs.Passed.{start_passed, put_passed}
 use Rattle.sizes.proofs.Held.{held_others}
@@ -111,7 +111,7 @@ put_sound s e v x r S h P t =
       held = z.4;
       ranged = R.ranged;
       marks = λ q l. (K.stored q l).2;
-      costs = put-costs a.capacity b.samples a.tolerances x a.levels v a.held _ b.table e.lent.table S.few S.small S.held S.ranged (held_others a.held v p.3) z.4 R.ranged
+      costs = put_costs a.capacity b.samples a.tolerances x a.levels v a.held _ b.table e.lent.table S.few S.small S.held S.ranged (held_others a.held v p.3) z.4 R.ranged
           (put_rewritten A P) S.costs;
       setup = inr (p.0.sized, p.0.tolerances);
     })
@@ -122,9 +122,9 @@ put_step_sound {s} {e} {v} {x} {r} S G t k =
 
 -- ---- upload: puts one by one, or nothing where the lists differ in length
 puts_sound : {a : Trace} {b e : Buffers} {ranks : List ℕ} {zs : List Sample} {r : Uploaded} → Sound (state a b ranks) → Puts a b zs r e → Sound (state r.trace e ranks)
-puts_sound S all-taken = S
-puts_sound S (one-refused G h) = put_step_sound S G refl refl
-puts_sound S (one-taken G h P) = puts_sound (put_step_sound S G refl refl) P
+puts_sound S all_taken = S
+puts_sound S (one_refused G h) = put_step_sound S G refl refl
+puts_sound S (one_taken G h P) = puts_sound (put_step_sound S G refl refl) P
 
 pub by_lists : {A : Type 0} {s e : State} {us : Samples} {r : Uploaded} → UploadGives s.trace s.lent us r e.lent us → e.trace ≡ r.trace → e.ranks ≡ s.ranks
     → (Puts s.trace s.lent (zipped us.across us.up us.marks) r e.lent → e ≡ state r.trace e.lent s.ranks → A)

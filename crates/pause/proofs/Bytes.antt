@@ -15,8 +15,8 @@ module _ (s : List ℕ) (i : ℕ) (h : i < length s / 16) where
   unfolding record_bytes
   bytes = simp (lt-ltb i (length s / 16) h)
 
-  bytes-length : length (record_bytes s i) ≡ 16
-  bytes-length = let m : 16 * (length s / 16) ≤ length s = mul-div-le (length s) 16 in ap length bytes ∙ length-take-le 16 (drop (16 * i) s) (rw length-drop (omega arith))
+  bytes_length : length (record_bytes s i) ≡ 16
+  bytes_length = let m : 16 * (length s / 16) ≤ length s = mul-div-le (length s) 16 in ap length bytes ∙ length-take-le 16 (drop (16 * i) s) (rw length-drop (omega arith))
 
   byte : (j : ℕ) → j < 16 → get_or (record_bytes s i) j 0 ≡ get_or s (16 * i + j) 0
   byte j l = rw (bytes, get_or-take 16 (drop (16 * i) s) j 0 l, get_or-drop)
@@ -50,16 +50,16 @@ module _ (s : List ℕ) (i : ℕ) (h : i < length s / 16) where
 
   outcomes : decode_outcome (record_bytes s i) ≡ record_outcome s (16 * i)
   unfolding decode_outcome record_outcome
-  outcomes = simp (eq-eqb _ _ bytes-length, acrosses, fields 2 (omega arith), rest)
+  outcomes = simp (eq-eqb _ _ bytes_length, acrosses, fields 2 (omega arith), rest)
 
   said : (o : Outcome) → decoded_by o (record_bytes s i) 0 ≡ decoded_by o s (16 * i)
   said Done = rw (acrosses, fields 2 (omega arith), counters, byte 8 (omega arith), words 9 (omega arith), byte 11 (omega arith))
   said (Refused r) = refl
 
-  pub decode-alone : decode_of (record_bytes s i) ≡ decoded_by (record_outcome s (16 * i)) s (16 * i)
+  pub decode_alone : decode_of (record_bytes s i) ≡ decoded_by (record_outcome s (16 * i)) s (16 * i)
   unfolding decode_of
-  decode-alone = ap (λ (o : Outcome). decoded_by o (record_bytes s i) 0) outcomes ∙ said (record_outcome s (16 * i))
+  decode_alone = ap (λ (o : Outcome). decoded_by o (record_bytes s i) 0) outcomes ∙ said (record_outcome s (16 * i))
 
   -- so no record of a file whose pause line is given is refused
-  pub decode-good : (pause_line_of s).outcome ≡ Done → (decode_of (record_bytes s i)).outcome ≡ Done
-  decode-good g = decode_outcome_lem (record_bytes s i) ∙ outcomes ∙ file_good s i g h
+  pub decode_good : (pause_line_of s).outcome ≡ Done → (decode_of (record_bytes s i)).outcome ≡ Done
+  decode_good g = decode_outcome_lem (record_bytes s i) ∙ outcomes ∙ file_good s i g h

@@ -8,18 +8,18 @@ use Rattle.pause.proofs.Plain.{records_one}
 
 pub record FileRows (s : List ℕ) (k : ℕ) : Type 0 where
   -- not a multiple of 16 bytes, or more than 4,096 records
-  pub row-10 : k ≡ 10 ↔ Misfit s
+  pub row_10 : k ≡ 10 ↔ Misfit s
   -- 6 or 11: the number of the first record, in file order, that is refused
   pub row_first : (num : ℕ) → (num ≡ 10 → ⊥) → (num ≡ 0 → ⊥) → k ≡ num ↔ (Misfit s → ⊥) × FirstRefused s (length s / 16) num
   -- every check of every record passes
-  pub row-0 : k ≡ 0 ↔ (Misfit s → ⊥) × ((i : ℕ) → i < length s / 16 → RecordGiven s (16 * i) 0)
+  pub row_0 : k ≡ 0 ↔ (Misfit s → ⊥) × ((i : ℕ) → i < length s / 16 → RecordGiven s (16 * i) 0)
 
 records_not_ten : (s : List ℕ) (n : ℕ) {k : ℕ} → RecordsGiven s n k → k ≡ 10 → ⊥
 records_not_ten s n (inl f) e = not_ten s (16 * f.at) f.given e
 records_not_ten s n (inr z) e = omega (arith, z.1)
 
 pub file_rows : (s : List ℕ) {k : ℕ} → FileGiven s k → FileRows s k
-file_rows s {k} h = record { row-10 = first_is (records_not_ten s n) h; row_first = refused; row-0 = none }
+file_rows s {k} h = record { row_10 = first_is (records_not_ten s n) h; row_first = refused; row_0 = none }
   where
     n : ℕ
     n = length s / 16

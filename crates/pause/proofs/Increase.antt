@@ -26,14 +26,14 @@ old_restart earlier later h = simp (lt-leb earlier later h)
 
 module _ (earlier later : ℕ) (e : earlier < 4294967296) (l : later < 4294967296) where
   -- the difference is the one number below 4,294,967,296 that, added to the earlier counter, gives the later one modulo 4,294,967,296
-  pub difference-meant : (d : ℕ) → d ≡ difference earlier later ↔ (d < 4294967296) × ((earlier + d) % 4294967296 ≡ later)
+  pub difference_meant : (d : ℕ) → d ≡ difference earlier later ↔ (d < 4294967296) × ((earlier + d) % 4294967296 ≡ later)
   unfolding difference
-  difference-meant d = (λ q. (omega arith, omega arith), λ q. omega arith)
+  difference_meant d = (λ q. (omega arith, omega arith), λ q. omega arith)
 
   -- where the later counter is not lower, the old rule gives it too
-  difference-old : earlier ≤ later → old_increase earlier later ≡ difference earlier later
+  difference_old : earlier ≤ later → old_increase earlier later ≡ difference earlier later
   unfolding difference
-  difference-old h = old_on earlier later h ∙ omega arith
+  difference_old h = old_on earlier later h ∙ omega arith
 
 -- ---- two records
 module _ (s : List ℕ) (p q : ℕ) where
@@ -51,102 +51,102 @@ module _ (s : List ℕ) (p q : ℕ) where
         | no n ↦ other (inl n)
       ]
 
-  with-boot : edition s p ≡ 1 → edition s q ≡ 1 → both_with_boot s p q ≡ true
+  with_boot : edition s p ≡ 1 → edition s q ≡ 1 → both_with_boot s p q ≡ true
   unfolding both_with_boot
-  with-boot e f = and_yes (eq-eqb _ _ e) (eq-eqb _ _ f)
+  with_boot e f = and_yes (eq-eqb _ _ e) (eq-eqb _ _ f)
 
-  without-boot : NotBoth → both_with_boot s p q ≡ false
+  without_boot : NotBoth → both_with_boot s p q ≡ false
   unfolding both_with_boot
-  without-boot (inl n) = and_no_left _ (ne_eqb _ _ n)
-  without-boot (inr n) = and_no_right (eqb (edition s p) 1) (ne_eqb _ _ n)
+  without_boot (inl n) = and_no_left _ (ne_eqb _ _ n)
+  without_boot (inr n) = and_no_right (eqb (edition s p) 1) (ne_eqb _ _ n)
 
-  pub restarted-boots : edition s p ≡ 1 → edition s q ≡ 1 → restarted s p q ≡ not (eqb (boot s p) (boot s q))
+  pub restarted_boots : edition s p ≡ 1 → edition s q ≡ 1 → restarted s p q ≡ not (eqb (boot s p) (boot s q))
   unfolding restarted
-  restarted-boots e f = simp (with-boot e f)
+  restarted_boots e f = simp (with_boot e f)
 
-  pub restarted-old : NotBoth → restarted s p q ≡ ltb (counter s q) (counter s p)
+  pub restarted_old : NotBoth → restarted s p q ≡ ltb (counter s q) (counter s p)
   unfolding restarted
-  restarted-old n = simp (without-boot n)
+  restarted_old n = simp (without_boot n)
 
   -- it says whether a restart lies between them
-  pub restarted-decided : Decides (Restarted s p q) (restarted s p q)
-  restarted-decided =
+  pub restarted_decided : Decides (Restarted s p q) (restarted s p q)
+  restarted_decided =
       kinds
       (λ e f. record {
-        right = λ t. inl ((e, f), eqb-false _ _ (not-true _ (sym (restarted-boots e f) ∙ t)));
-        wrong = λ t. ⊎_elim (λ b. b.1 (eqb-true _ _ (not-false _ (sym (restarted-boots e f) ∙ t)))) (λ o. o.0 (e, f));
+        right = λ t. inl ((e, f), eqb-false _ _ (not-true _ (sym (restarted_boots e f) ∙ t)));
+        wrong = λ t. ⊎_elim (λ b. b.1 (eqb-true _ _ (not-false _ (sym (restarted_boots e f) ∙ t)))) (λ o. o.0 (e, f));
       })
       (λ n. record {
-        right = λ t. inr (λ b. ⊎_elim (λ x. x b.0) (λ x. x b.1) n, ltb-true _ _ (sym (restarted-old n) ∙ t));
-        wrong = λ t. ⊎_elim (λ b. ⊎_elim (λ x. x b.0.0) (λ x. x b.0.1) n) (λ o. omega (arith, o.1, ltb-false (counter s q) (counter s p) (sym (restarted-old n) ∙ t)));
+        right = λ t. inr (λ b. ⊎_elim (λ x. x b.0) (λ x. x b.1) n, ltb-true _ _ (sym (restarted_old n) ∙ t));
+        wrong = λ t. ⊎_elim (λ b. ⊎_elim (λ x. x b.0.0) (λ x. x b.0.1) n) (λ o. omega (arith, o.1, ltb-false (counter s q) (counter s p) (sym (restarted_old n) ∙ t)));
       })
 
-  same-boot : edition s p ≡ 1 → edition s q ≡ 1 → boot s p ≡ boot s q → increase s p q ≡ difference (counter s p) (counter s q)
+  same_boot : edition s p ≡ 1 → edition s q ≡ 1 → boot s p ≡ boot s q → increase s p q ≡ difference (counter s p) (counter s q)
   unfolding increase
-  same-boot e f b = simp (with-boot e f, eq-eqb (boot s p) (boot s q) b)
+  same_boot e f b = simp (with_boot e f, eq-eqb (boot s p) (boot s q) b)
 
-  new-boot : edition s p ≡ 1 → edition s q ≡ 1 → (boot s p ≡ boot s q → ⊥) → increase s p q ≡ counter s q
+  new_boot : edition s p ≡ 1 → edition s q ≡ 1 → (boot s p ≡ boot s q → ⊥) → increase s p q ≡ counter s q
   unfolding increase
-  new-boot e f n = simp (with-boot e f, ne_eqb (boot s p) (boot s q) n)
+  new_boot e f n = simp (with_boot e f, ne_eqb (boot s p) (boot s q) n)
 
-  by-old-rule : NotBoth → increase s p q ≡ old_increase (counter s p) (counter s q)
+  by_old_rule : NotBoth → increase s p q ≡ old_increase (counter s p) (counter s q)
   unfolding increase
-  by-old-rule n = simp (without-boot n)
+  by_old_rule n = simp (without_boot n)
 
   -- after a restart the increase is the later counter
-  pub increase-restarted : restarted s p q ≡ true → increase s p q ≡ counter s q
-  increase-restarted h =
-      kinds (λ e f. new-boot e f (eqb-false _ _ (not-true _ (sym (restarted-boots e f) ∙ h))))
-      (λ n. by-old-rule n ∙ old_restart _ _ (ltb-true _ _ (sym (restarted-old n) ∙ h)))
+  pub increase_restarted : restarted s p q ≡ true → increase s p q ≡ counter s q
+  increase_restarted h =
+      kinds (λ e f. new_boot e f (eqb-false _ _ (not-true _ (sym (restarted_boots e f) ∙ h))))
+      (λ n. by_old_rule n ∙ old_restart _ _ (ltb-true _ _ (sym (restarted_old n) ∙ h)))
 
   module _ (x : counter s p < 4294967296) (y : counter s q < 4294967296) where
     -- and else the difference
-    pub increase-on : restarted s p q ≡ false → increase s p q ≡ difference (counter s p) (counter s q)
-    increase-on h =
-        kinds (λ e f. same-boot e f (eqb-true _ _ (not-false _ (sym (restarted-boots e f) ∙ h))))
-        (λ n. by-old-rule n ∙ difference-old _ _ x y (ltb-false _ _ (sym (restarted-old n) ∙ h)))
+    pub increase_on : restarted s p q ≡ false → increase s p q ≡ difference (counter s p) (counter s q)
+    increase_on h =
+        kinds (λ e f. same_boot e f (eqb-true _ _ (not-false _ (sym (restarted_boots e f) ∙ h))))
+        (λ n. by_old_rule n ∙ difference_old _ _ x y (ltb-false _ _ (sym (restarted_old n) ∙ h)))
 
     -- it is what the plain statement says
-    increase-adds : Adds s p q (increase s p q)
-    increase-adds = record {
-      same-boot = λ e f b. (difference-meant _ _ x y _).0 (same-boot e f b);
-      new-boot = new-boot;
-      not_lower = λ z l. omega (arith, by-old-rule (other z) ∙ old_on _ _ l);
-      lower = λ z l. by-old-rule (other z) ∙ old_restart _ _ l;
+    increase_adds : Adds s p q (increase s p q)
+    increase_adds = record {
+      same_boot = λ e f b. (difference_meant _ _ x y _).0 (same_boot e f b);
+      new_boot = new_boot;
+      not_lower = λ z l. omega (arith, by_old_rule (other z) ∙ old_on _ _ l);
+      lower = λ z l. by_old_rule (other z) ∙ old_restart _ _ l;
     }
       where
         other : (edition s p ≡ 0) ⊎ (edition s q ≡ 0) → NotBoth
         other = ⊎_elim (λ z. inl (λ f. omega arith)) (λ z. inr (λ f. omega arith))
 
     -- and nothing else is, where there is no edition above 1
-    adds-increase : edition s p ≤ 1 → edition s q ≤ 1 → (d : ℕ) → Adds s p q d → d ≡ increase s p q
-    adds-increase a b d h = kinds boots (λ n. old (⊎_elim (λ e. inl (omega (arith, e))) (λ e. inr (omega (arith, e))) n))
+    adds_increase : edition s p ≤ 1 → edition s q ≤ 1 → (d : ℕ) → Adds s p q d → d ≡ increase s p q
+    adds_increase a b d h = kinds boots (λ n. old (⊎_elim (λ e. inl (omega (arith, e))) (λ e. inr (omega (arith, e))) n))
       where
         boots : edition s p ≡ 1 → edition s q ≡ 1 → d ≡ increase s p q
         boots e f =
             elim (decided _ (by_equal (boot s p) (boot s q))) [
-              | yes o ↦ (difference-meant _ _ x y d).1 (h.same-boot e f o) ∙ sym (same-boot e f o)
-              | no n ↦ h.new-boot e f n ∙ sym (new-boot e f n)
+              | yes o ↦ (difference_meant _ _ x y d).1 (h.same_boot e f o) ∙ sym (same_boot e f o)
+              | no n ↦ h.new_boot e f n ∙ sym (new_boot e f n)
             ]
 
         old : (edition s p ≡ 0) ⊎ (edition s q ≡ 0) → d ≡ increase s p q
         old z =
             elim (dec_le (counter s p) (counter s q)) [
-              | yes l ↦ omega (arith, h.not_lower z l, increase-adds.not_lower z l)
-              | no l ↦ h.lower z (lt_of_not-le l) ∙ sym (increase-adds.lower z (lt_of_not-le l))
+              | yes l ↦ omega (arith, h.not_lower z l, increase_adds.not_lower z l)
+              | no l ↦ h.lower z (lt_of_not-le l) ∙ sym (increase_adds.lower z (lt_of_not-le l))
             ]
 
 -- ---- a file that is not refused: d is what the record after record i adds, exactly when the plain statement says so
 module _ (s : List ℕ) (bytes : (k : ℕ) → get_or s k 0 < 256) where
-  counter-below : (p : ℕ) → counter s p < 4294967296
+  counter_below : (p : ℕ) → counter s p < 4294967296
   unfolding counter long word
-  counter-below p = omega (arith, bytes (p + 4), bytes (p + 4 + 1), bytes (p + 4 + 2), bytes (p + 4 + 2 + 1))
+  counter_below p = omega (arith, bytes (p + 4), bytes (p + 4 + 1), bytes (p + 4 + 2), bytes (p + 4 + 2 + 1))
 
-  pub line-adds : (pause_line_of s).outcome ≡ Done → (i : ℕ) → suc i < length s / 16 → (d : ℕ) → d ≡ increase_at s (suc i) ↔ Adds s (16 * i) (16 * suc i) d
+  pub line_adds : (pause_line_of s).outcome ≡ Done → (i : ℕ) → suc i < length s / 16 → (d : ℕ) → d ≡ increase_at s (suc i) ↔ Adds s (16 * i) (16 * suc i) d
   unfolding increase_at
-  line-adds g i l d =
-      let x = counter-below (16 * i) in
-      let y = counter-below (16 * suc i) in
+  line_adds g i l d =
+      let x = counter_below (16 * i) in
+      let y = counter_below (16 * suc i) in
       let a = good_edition s (16 * i) (file_good s i g (omega arith)) in
       let b = good_edition s (16 * suc i) (file_good s (suc i) g l) in
-      (λ e. subst (Adds s (16 * i) (16 * suc i)) (sym e) (increase-adds s _ _ x y), adds-increase s _ _ x y a b d)
+      (λ e. subst (Adds s (16 * i) (16 * suc i)) (sym e) (increase_adds s _ _ x y), adds_increase s _ _ x y a b d)

@@ -5,7 +5,7 @@ use Rattle.refusal.proofs.Plain.{by_cond}
 use Rattle.record.specs.Record.{boot, edition}
 use Rattle.pause.specs.Restart.{restarted, mark_at, mark_of}
 use Rattle.pause.specs.Plain.{Restarted}
-use Rattle.pause.proofs.Increase.{restarted-decided}
+use Rattle.pause.proofs.Increase.{restarted_decided}
 
 pub mark_first : (s : List ℕ) (n : ℕ) → n ≡ 0 → mark_at s n ≡ 0
 unfolding mark_at
@@ -29,7 +29,7 @@ pub mark_exactly : (s : List ℕ) (n : ℕ) → mark_at s n ≡ 1 ↔ (0 < n) ×
 mark_exactly s zero = (λ e. absurd (omega (arith, mark_first s zero refl)), λ p. absurd (omega (arith, p.0)))
 mark_exactly s (suc n) =
     let e = mark_after s (suc n) (λ z. omega arith) in
-    let x = one_exactly _ (restarted-decided s (16 * (suc n - 1)) (16 * suc n)) in
+    let x = one_exactly _ (restarted_decided s (16 * (suc n - 1)) (16 * suc n)) in
     (λ h. (omega arith, x.0 (sym e ∙ h)), λ p. e ∙ x.1 p.1)
 
 -- so a record of the same boot as the one before has none, whatever the two counters: a roll-over is no restart

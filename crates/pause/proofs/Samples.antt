@@ -6,14 +6,14 @@ use Rattle.sample.specs.Samples.{sample}
 use Rattle.record.specs.Record.{across, up, decode_of, decoded_by}
 use Rattle.pause.specs.Pause.{record_bytes, pause_line_of}
 use Rattle.pause.specs.Restart.{mark_at, sample_of}
-use Rattle.pause.proofs.Bytes.{decode-alone}
+use Rattle.pause.proofs.Bytes.{decode_alone}
 use Rattle.pause.proofs.Marks.{mark_there}
 use Rattle.pause.proofs.Pause.{file_good}
 
 module _ (s : List ℕ) (good : (pause_line_of s).outcome ≡ Done) (i : ℕ) (h : i < length s / 16) where
   decoded : decode_of (record_bytes s i) ≡ decoded_by Done s (16 * i)
-  decoded = decode-alone s i h ∙ ap (λ (o : Outcome). decoded_by o s (16 * i)) (file_good s i good h)
+  decoded = decode_alone s i h ∙ ap (λ (o : Outcome). decoded_by o s (16 * i)) (file_good s i good h)
 
-  pub sample-there : sample_of s i ≡ sample (across s (16 * i)) (up s (16 * i)) (mark_at s i)
+  pub sample_there : sample_of s i ≡ sample (across s (16 * i)) (up s (16 * i)) (mark_at s i)
   unfolding sample_of
-  sample-there = rw (decoded, mark_there s i h) refl
+  sample_there = rw (decoded, mark_there s i h) refl

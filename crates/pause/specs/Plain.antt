@@ -27,9 +27,9 @@ FileGiven s = First 10 (Misfit s) (RecordsGiven s (length s / 16))
 -- d is what the record at place q adds after the one at place p
 pub record Adds (s : List ℕ) (p q d : ℕ) : Type 0 where
   -- between two of edition 1 of equal boot: the number below 4,294,967,296 that, added to the earlier counter, gives the later one modulo 4,294,967,296
-  pub same-boot : edition s p ≡ 1 → edition s q ≡ 1 → boot s p ≡ boot s q → (d < 4294967296) × ((counter s p + d) % 4294967296 ≡ counter s q)
+  pub same_boot : edition s p ≡ 1 → edition s q ≡ 1 → boot s p ≡ boot s q → (d < 4294967296) × ((counter s p + d) % 4294967296 ≡ counter s q)
   -- of unequal boot: the later counter
-  pub new-boot : edition s p ≡ 1 → edition s q ≡ 1 → (boot s p ≢ boot s q) → d ≡ counter s q
+  pub new_boot : edition s p ≡ 1 → edition s q ≡ 1 → (boot s p ≢ boot s q) → d ≡ counter s q
   -- where either is of edition 0, a later counter that is not lower: later minus earlier
   pub not_lower : (edition s p ≡ 0) ⊎ (edition s q ≡ 0) → counter s p ≤ counter s q → counter s p + d ≡ counter s q
   -- and a lower one: the later counter itself

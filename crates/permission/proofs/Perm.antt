@@ -18,8 +18,8 @@ use Rattle.geometry.specs.Near.{Along}
 use Rattle.sample.specs.Samples.{Samples, samples}
 use Rattle.geometry.specs.Spoiler.{Told, is_yes}
 use Rattle.sample.specs.Sweep.{no_marks}
-use Rattle.geometry.proofs.Marks.{Unmarked, unmarked-says}
-use Rattle.geometry.proofs.Spoiler.{says-decides, permits_decided}
+use Rattle.geometry.proofs.Marks.{Unmarked, unmarked_says}
+use Rattle.geometry.proofs.Spoiler.{says_decides, permits_decided}
 use Rattle.geometry.proofs.Permits.{permits_wider, permits_adjacent, permits_same, permits_stops, Same}
 use Rattle.permission.specs.Finest.{perm, Rising, Finest}
 
@@ -28,7 +28,7 @@ pub perm_judged : (xs ys : List ℤ) (tols : List ℕ) (k i j : ℕ) (v : Verdic
     → Told (Along xs ys i j (get_or tols (k - 1) 0)) i j v → perm (samples xs ys no_marks) tols k i j ≡ is_yes v
 unfolding perm
 perm_judged xs ys tols k i j v a b o s =
-    decides_unique _ (is_yes v) (permits_decided xs' i j e (record { across = a; up = b }) o) (says-decides xs' i j e v (unmarked-says xs' i j e (λ l x y h. absurd (omega arith)) v s))
+    decides_unique _ (is_yes v) (permits_decided xs' i j e (record { across = a; up = b }) o) (says_decides xs' i j e v (unmarked_says xs' i j e (λ l x y h. absurd (omega arith)) v s))
   where
     xs' : Samples
     xs' = samples xs ys no_marks

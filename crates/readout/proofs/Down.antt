@@ -45,8 +45,8 @@ pub down_bare : (c : ℕ → ℕ → ℕ → ℕ) (m n k : ℕ) (f g : ℕ → �
 down_bare c m n k f g h w = record { first = rw w.first h; last = λ x e. rw (w.last x e) h; between = w.between }
 
 module _ (c : ℕ → ℕ → ℕ → ℕ) (m n : ℕ) (hm : 0 < m) (hn : 1 < n) (f : ℕ → ℕ) where
-  pub down-more : (k : ℕ) (g e : ℕ → ℕ) → 0 < k → k ≤ m → Down c m n k f g → Laying (c k) k n (n - 1) g e → Down c m n (k - 1) f e
-  down-more k g e h0 h w y = record {
+  pub down_more : (k : ℕ) (g e : ℕ → ℕ) → 0 < k → k ≤ m → Down c m n k f g → Laying (c k) k n (n - 1) g e → Down c m n (k - 1) f e
+  down_more k g e h0 h w y = record {
     first = keep 0 w.first;
     last = λ x z. keep x (w.last x z);
     top = λ x z. (let t = w.top x z in ⊎_elim (λ r. omega arith) (λ r. omega arith) (y.grown x));
@@ -58,8 +58,8 @@ module _ (c : ℕ → ℕ → ℕ → ℕ) (m n : ℕ) (hm : 0 < m) (hn : 1 < n)
       keep : (x : ℕ) → g x ≡ m → e x ≡ m
       keep x z = ⊎_elim (λ r. r ∙ z) (λ r. omega arith) (y.grown x)
 
-  down-all : (g : ℕ → ℕ) → Down c m n 0 f g → Readout c m n g
-  down-all g w = record {
+  down_all : (g : ℕ → ℕ) → Down c m n 0 f g → Readout c m n g
+  down_all g w = record {
     first = w.first;
     last = w.last (n - 1) (omega arith);
     highest = w.top;
@@ -72,8 +72,8 @@ module _ (c : ℕ → ℕ → ℕ → ℕ) (m n : ℕ) (hm : 0 < m) (hn : 1 < n)
 
 -- before the first level, and after the last
 module _ (m n : ℕ) (r e : List ℕ) (S : Started m n r e) where
-  pub down-none : (c : ℕ → ℕ → ℕ → ℕ) → Down c m n m (rank e) (rank e)
-  down-none c = record {
+  pub down_none : (c : ℕ → ℕ → ℕ → ℕ) → Down c m n m (rank e) (rank e)
+  down_none c = record {
     first = S.first;
     last = S.last;
     top = λ x z. elim (ℕ_discrete (x + 1) n) [
@@ -88,6 +88,6 @@ module _ (m n : ℕ) (r e : List ℕ) (S : Started m n r e) where
   pub ranked : (t : List ℕ) (N : ℕ) (g : List ℕ) → 0 < m → 1 < n → length g ≡ length e → Down (cell t N) m n 0 (rank e) (rank g) → Ranked t N m n r g
   ranked t N g hm hn same D = record {
     same = same ∙ S.same;
-    readout = down-all (cell t N) m n hm hn (rank e) (rank g) D;
+    readout = down_all (cell t N) m n hm hn (rank e) (rank g) D;
     other = λ x a. D.other x a ∙ S.other x a;
   }

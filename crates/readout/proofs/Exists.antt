@@ -13,7 +13,7 @@ use Rattle.table.proofs.Stops.{zeros}
 use Rattle.table.proofs.Writes.{anew}
 use Rattle.readout.specs.Read.{rank, RanksRead}
 use Rattle.readout.specs.Lay.{Ranked, Counted, ReadBy}
-use Rattle.readout.proofs.Meaning.{read-ranks}
+use Rattle.readout.proofs.Meaning.{read_ranks}
 
 -- only the ranks of the n samples count
 readout_ranks : (c : ℕ → ℕ → ℕ → ℕ) (m n : ℕ) (r s : ℕ → ℕ) → 0 < n → ((x : ℕ) → x < n → s x ≡ r x) → Readout c m n r → Readout c m n s
@@ -53,4 +53,4 @@ pub ranks_some : (t : List ℕ) (N m n : ℕ) → 1 ≤ m → m ≤ 16 → 0 < n
     → (e : List ℕ) × (per : List ℕ) × (sum : ℕ) × RanksRead t N m n r e per sum
 ranks_some t N m n one few some small checked r room =
     let R = read_by_some t N m n r few some room in
-    (R.0, R.1, R.2, read-ranks t N m n one few some small checked r R.0 R.1 R.2 R.3)
+    (R.0, R.1, R.2, read_ranks t N m n one few some small checked r R.0 R.1 R.2 R.3)

@@ -7,7 +7,7 @@ use native.Mathlib.Decide.{ℕ_discrete, dec_le, dec_lt}
 use native.Mathlib.Omega.{arith}
 use Rattle.family.specs.Family.{next}
 use Rattle.family.specs.Lists.{Neighbours}
-use Rattle.family.proofs.Paths.{next-after, next-within}
+use Rattle.family.proofs.Paths.{next_after, next_within}
 use Rattle.readout.specs.Lay.{Above, Way, Laying, Bare}
 
 -- there is one such sample
@@ -25,19 +25,19 @@ above_unique f k n p j i a b = elim (dec_lt j i) [
 
 -- where a way goes
 module _ (c : ℕ → ℕ → ℕ) (f : ℕ → ℕ) (k n p q : ℕ) (W : Way c f k n p q) where
-  pub way-after : p < q
-  way-after = rw W.goes (next-after c W.end p W.above.after)
+  pub way_after : p < q
+  way_after = rw W.goes (next_after c W.end p W.above.after)
 
-  way-within : q ≤ W.end
-  way-within = rw W.goes (next-within c W.end p W.above.after)
+  way_within : q ≤ W.end
+  way_within = rw W.goes (next_within c W.end p W.above.after)
 
-  pub way-inside : q < n
-  way-inside = omega (arith, way-within, W.above.inside)
+  pub way_inside : q < n
+  way_inside = omega (arith, way_within, W.above.inside)
 
 -- one stop more of a level
 module _ (c : ℕ → ℕ → ℕ) (k n : ℕ) (hk : 0 < k) (f : ℕ → ℕ) (bare : Bare k n f) where
-  pub laying-none : 0 < n → Laying c k n 0 f f
-  laying-none h = record {
+  pub laying_none : 0 < n → Laying c k n 0 f f
+  laying_none h = record {
     grown = λ x. inl refl;
     ahead = λ x a. refl;
     here = bare.first;
@@ -47,13 +47,13 @@ module _ (c : ℕ → ℕ → ℕ) (k n : ℕ) (hk : 0 < k) (f : ℕ → ℕ) (b
 
   module _ (g e : ℕ → ℕ) (p q : ℕ) (w : Laying c k n p f g) (W : Way c f k n p q) (raised : e q ≡ max (g q) k) (other : (x : ℕ) → (x ≡ q → ⊥) → e x ≡ g x) where
     after : p < q
-    after = way-after c f k n p q W
+    after = way_after c f k n p q W
 
     within : q ≤ W.end
-    within = way-within c f k n p q W
+    within = way_within c f k n p q W
 
     inside : q < n
-    inside = way-inside c f k n p q W
+    inside = way_inside c f k n p q W
 
     up : Above g k n p W.end
     up = record {
@@ -63,8 +63,8 @@ module _ (c : ℕ → ℕ → ℕ) (k n : ℕ) (hk : 0 < k) (f : ℕ → ℕ) (b
       clear = λ x a b. rw (w.ahead x a) (W.above.clear x a b);
     }
 
-    bare-between : (x : ℕ) → p < x → x < W.end → f x ≡ 0
-    bare-between x a b =
+    bare_between : (x : ℕ) → p < x → x < W.end → f x ≡ 0
+    bare_between x a b =
         ⊎_elim (λ z. z) (λ z. absurd (refute (W.above.clear x a b) z)) (bare.between x (omega arith) (omega (arith, W.above.inside)))
       where
         refute : f x ≤ k → k < f x → ⊥
@@ -84,21 +84,21 @@ module _ (c : ℕ → ℕ → ℕ) (k n : ℕ) (hk : 0 < k) (f : ℕ → ℕ) (b
         high : k < e j' → k < g j'
         high h = elim (ℕ_discrete j' q) [ yes z ↦ rw z (let r : k < e q = rw z at h in omega arith) | no z ↦ omega (arith, other j' z) ]
 
-    at-stop : (f q ≡ 0) ⊎ (k ≤ f q)
-    at-stop = ⊎_elim at-end (λ lt. inl (bare-between q after lt)) (eq-or-lt_of_le within)
+    at_stop : (f q ≡ 0) ⊎ (k ≤ f q)
+    at_stop = ⊎_elim at_end (λ lt. inl (bare_between q after lt)) (eq-or-lt_of_le within)
       where
         at_above : q ≡ W.end → k < f W.end → k ≤ f q
         at_above h z = rw h (omega arith)
 
-        at-end : q ≡ W.end → (f q ≡ 0) ⊎ (k ≤ f q)
-        at-end h = ⊎_elim (λ z. inr (bare.last q (omega arith))) (λ z. inr (at_above h z)) W.above.held
+        at_end : q ≡ W.end → (f q ≡ 0) ⊎ (k ≤ f q)
+        at_end h = ⊎_elim (λ z. inr (bare.last q (omega arith))) (λ z. inr (at_above h z)) W.above.held
 
-    grown-stop : (e q ≡ f q) ⊎ ((f q ≡ 0) × (e q ≡ k))
-    grown-stop = let o = w.ahead q after in ⊎_elim (λ z. inr (z, omega arith)) (λ z. inl (omega arith)) at-stop
+    grown_stop : (e q ≡ f q) ⊎ ((f q ≡ 0) × (e q ≡ k))
+    grown_stop = let o = w.ahead q after in ⊎_elim (λ z. inr (z, omega arith)) (λ z. inl (omega arith)) at_stop
 
     module _ (p' q' j' : ℕ) (a : p' < q) (N : Neighbours e k p' q') (above : Above e k n p' j') where
       skipped : p < p' → ⊥
-      skipped lt = omega (arith, bare-between p' lt (omega (arith, within)), other p' (λ h. omega arith), w.ahead p' lt, N.left)
+      skipped lt = omega (arith, bare_between p' lt (omega (arith, within)), other p' (λ h. omega arith), w.ahead p' lt, N.left)
 
       same_stop : p' ≡ p → q' ≡ q
       same_stop h = elim (dec_lt q' q) [
@@ -109,18 +109,18 @@ module _ (c : ℕ → ℕ → ℕ) (k n : ℕ) (hk : 0 < k) (f : ℕ → ℕ) (b
           early : q' < q → ⊥
           early lt =
               let b : p < q' = omega (arith, N.order) in
-              omega (arith, bare-between q' b (omega (arith, within)), w.ahead q' b, other q' (λ h. omega arith), N.right)
+              omega (arith, bare_between q' b (omega (arith, within)), w.ahead q' b, other q' (λ h. omega arith), N.right)
 
           late : q < q' → ⊥
           late lt = omega (arith, N.between q a lt, raised)
 
-      here-step : p' ≡ p → q' ≡ next c p' j'
-      here-step h =
+      here_step : p' ≡ p → q' ≡ next c p' j'
+      here_step h =
           let u : j' ≡ W.end = above_unique g k n p j' W.end (back p j' (rw h at above)) up in
           rw (u, h) (same_stop h ∙ W.goes)
 
-      old-step : p' < p → q' < n → q' ≡ next c p' j'
-      old-step lt hn = w.laid.step p' q' j' lt hn old (back p' j' above)
+      old_step : p' < p → q' < n → q' ≡ next c p' j'
+      old_step lt hn = w.laid.step p' q' j' lt hn old (back p' j' above)
         where
           at_most : q' ≤ p
           at_most = elim (dec_le q' p) [ yes h ↦ h | no h ↦ absurd (omega (arith, N.between p lt (omega arith), other p (λ h. omega (arith, after)), w.here)) ]
@@ -135,13 +135,13 @@ module _ (c : ℕ → ℕ → ℕ) (k n : ℕ) (hk : 0 < k) (f : ℕ → ℕ) (b
 
       stepped : q' < n → q' ≡ next c p' j'
       stepped hn = elim (dec_lt p' p) [
-        | yes u ↦ old-step u hn
-        | no u ↦ elim (dec_lt p p') [ yes v ↦ absurd (skipped v) | no v ↦ here-step (omega arith) ]
+        | yes u ↦ old_step u hn
+        | no u ↦ elim (dec_lt p p') [ yes v ↦ absurd (skipped v) | no v ↦ here_step (omega arith) ]
       ]
 
-    pub laying-more : Laying c k n q f e
-    laying-more = record {
-      grown = λ x. elim (ℕ_discrete x q) [ yes h ↦ rw h grown-stop | no h ↦ rw (other x h) (w.grown x) ];
+    pub laying_more : Laying c k n q f e
+    laying_more = record {
+      grown = λ x. elim (ℕ_discrete x q) [ yes h ↦ rw h grown_stop | no h ↦ rw (other x h) (w.grown x) ];
       ahead = λ x a. other x (λ h. omega arith) ∙ w.ahead x (omega (arith, after));
       here = omega arith;
       inside = inside;

@@ -24,21 +24,21 @@ not_ten s p r = first_has (λ j. j ≡ 10 → ⊥) (λ e. omega arith) (first_ha
 -- ---- one record
 pub record DecodeRows (s : List ℕ) (k : ℕ) : Type 0 where
   -- a record not of 16 bytes
-  pub row-10 : k ≡ 10 ↔ (length s ≡ 16 → ⊥)
+  pub row_10 : k ≡ 10 ↔ (length s ≡ 16 → ⊥)
   -- a coordinate out of range
-  pub row-6 : k ≡ 6 ↔ (length s ≡ 16) × (Placed s 0 → ⊥)
+  pub row_6 : k ≡ 6 ↔ (length s ≡ 16) × (Placed s 0 → ⊥)
   -- a rank above 16, an edition above 1, edition 0 with a boot number above 0, or a spare byte not zero
-  pub row-11 : k ≡ 11 ↔ (length s ≡ 16) × (Placed s 0 × Marred s 0)
+  pub row_11 : k ≡ 11 ↔ (length s ≡ 16) × (Placed s 0 × Marred s 0)
   -- every check passes
-  pub row-0 : k ≡ 0 ↔ (length s ≡ 16) × (Placed s 0 × (Marred s 0 → ⊥))
+  pub row_0 : k ≡ 0 ↔ (length s ≡ 16) × (Placed s 0 × (Marred s 0 → ⊥))
 
 pub decode_rows : (s : List ℕ) {k : ℕ} → DecodeGiven s k → DecodeRows s k
 decode_rows s h =
     let whole = by_equal (length s) 16 in
     let placed = placed_decided s 0 in
     record {
-      row-10 = first_is (not_ten s 0) h;
-      row-6 = first_later _ whole (λ e. omega arith) (λ r. first_is (first_has (λ j. j ≡ 6 → ⊥) (λ e. omega arith) (λ z e. omega arith)) r) h;
-      row-11 = first_later _ whole (λ e. omega arith) (λ r. first_later _ placed (λ e. omega arith) (λ q. first_is (λ z e. omega arith) q) r) h;
-      row-0 = first_later _ whole (λ e. omega arith) (λ r. first_later _ placed (λ e. omega arith) (λ q. first_none (λ e. omega arith) q) r) h;
+      row_10 = first_is (not_ten s 0) h;
+      row_6 = first_later _ whole (λ e. omega arith) (λ r. first_is (first_has (λ j. j ≡ 6 → ⊥) (λ e. omega arith) (λ z e. omega arith)) r) h;
+      row_11 = first_later _ whole (λ e. omega arith) (λ r. first_later _ placed (λ e. omega arith) (λ q. first_is (λ z e. omega arith) q) r) h;
+      row_0 = first_later _ whole (λ e. omega arith) (λ r. first_later _ placed (λ e. omega arith) (λ q. first_none (λ e. omega arith) q) r) h;
     }

@@ -21,7 +21,7 @@ use Rattle.family.specs.Levels.{end, link, levels, size}
 use Rattle.family.proofs.Checks.{room}
 use Rattle.family.proofs.Costs.{cells_genuine}
 use Rattle.family.proofs.Levels.{levels_total, ranks_levels}
-use Rattle.family.proofs.Promise.{genuine-meant, read-promised}
+use Rattle.family.proofs.Promise.{genuine_meant, read_promised}
 use Rattle.family.proofs.Ranks.{readout}
 use Rattle.permission.specs.Finest.{perm}
 use Rattle.permission.proofs.Perm.{perm_adjacent}
@@ -30,7 +30,7 @@ use Rattle.checks.specs.Numbers.{ReadNumber}
 use Rattle.checks.proofs.Numbers.{read_number}
 use Rattle.checks.specs.Rows.{Passed, PassedTable}
 use Rattle.checks.proofs.Exactly.{read_rows}
-use Rattle.starred.specs.Cases.{buffered, PermitOf, listed, Ranked, Case, permitted, not-permitted, serves, ranked, costs, two-samples, one-sample, paused, Holds, All}
+use Rattle.starred.specs.Cases.{buffered, PermitOf, listed, Ranked, Case, permitted, not_permitted, serves, ranked, costs, two_samples, one_sample, paused, Holds, All}
 
 -- the test of a stretch
 abbrev perm_of : List Sample → List ℕ → ℕ → ℕ → ℕ → Bool
@@ -87,20 +87,20 @@ module _ (s : List Sample) (tols : List ℕ) where
     space = room m (length s) F.few F.small
 
     -- the cells are the costs
-    all-costs : Levels.Costs (PermitOf s tols) cell m (length s)
-    all-costs =
-        (genuine-meant (PermitOf s tols) (perm_of s tols) (perm_adjacent (buffered s) tols) m (length s) space F.decides cell).0
+    all_costs : Levels.Costs (PermitOf s tols) cell m (length s)
+    all_costs =
+        (genuine_meant (PermitOf s tols) (perm_of s tols) (perm_adjacent (buffered s) tols) m (length s) space F.decides cell).0
         (cells_genuine (perm_of s tols) m (length s))
 
     -- the ranks are those of the chosen family
-    all-ranks : (r : List ℕ) (t : ℕ) → listed read 0 (length s) ≡ r → whole ≡ t → Ranked s tols r t
-    all-ranks r t h k =
+    all_ranks : (r : List ℕ) (t : ℕ) → listed read 0 (length s) ≡ r → whole ≡ t → Ranked s tols r t
+    all_ranks r t h k =
         let R = readout cell m (length s) in
         record {
           levels = levels read 0 last;
-          chosen = read-promised (PermitOf s tols) (perm_of s tols) (perm_adjacent (buffered s) tols) m (length s) space F.decides cell F.some all-costs read R;
+          chosen = read_promised (PermitOf s tols) (perm_of s tols) (perm_adjacent (buffered s) tols) m (length s) space F.decides cell F.some all_costs read R;
           rank_is = listed_same _ read (length s) 0 (length s) (omega arith) (λ x o. ranks_levels read m 0 last x zero-le zero-le (omega arith) (R.highest x o)) ∙ h;
-          total-is = sym (levels_total read m 0 last zero-le (omega (arith, R.first))) ∙ k;
+          total_is = sym (levels_total read m 0 last zero-le (omega (arith, R.first))) ∙ k;
         }
 
 -- with sample q alone, by two permitted stretches, and the total of the chosen family
@@ -108,7 +108,7 @@ serve : (s : List Sample) (e q : ℕ) → Fit s (e ∷ []) → 0 < q → q < len
     → whole s (e ∷ []) ≡ 2 → Holds (serves s e q)
 unfolding size
 serve s e q F o u a b k =
-    let R = all-ranks s (e ∷ []) F _ _ refl k in
+    let R = all_ranks s (e ∷ []) F _ _ refl k in
     record {
       family = record {
         chain = λ ℓ v w.
@@ -116,7 +116,7 @@ serve s e q F o u a b k =
             rw f (link o ((F.decides 1 0 q (omega arith) (omega arith) o (omega arith)).right a) (link u ((F.decides 1 q (length s - 1) (omega arith) (omega arith) u (omega arith)).right b) end)));
         nested = λ ℓ x v w. absurd (omega arith);
       };
-      least = λ M H. omega (arith, R.total-is, R.chosen.minimal.least M H);
+      least = λ M H. omega (arith, R.total_is, R.chosen.minimal.least M H);
     }
 
 -- two samples pass over nothing
@@ -125,7 +125,7 @@ unfolding total segments
 two_total r zero h = refl
 two_total r (suc k) h = rw (le-leb (suc k) (r 1) h) (omega (arith, two_total r k (omega arith)))
 
-two : Holds two-samples
+two : Holds two_samples
 two a b tols few =
     let s = a ∷ b ∷ [] in
     let R = readout (cell s tols) (length tols) 2 in
@@ -135,10 +135,10 @@ two a b tols few =
       few = few;
       decides = λ k i j u v o h. let e : j ≡ suc i = omega arith in rw (e, perm_adjacent (buffered s) tols k i) (yes_decides permitted_adjacent);
     } in
-    all-ranks s tols F (length tols ∷ length tols ∷ []) (length tols) (ap₂ (λ (x y : ℕ). x ∷ y ∷ []) R.first R.last) (two_total (read s tols) (length tols) (omega (arith, R.last)))
+    all_ranks s tols F (length tols ∷ length tols ∷ []) (length tols) (ap₂ (λ (x y : ℕ). x ∷ y ∷ []) R.first R.last) (two_total (read s tols) (length tols) (omega (arith, R.last)))
 
 -- one sample: row 9 of a read, and what the row of tests gives is that number
-one : Holds (one-sample 9)
+one : Holds (one_sample 9)
 one a xs t rank H k =
     let e : a.held ≡ 1 = H.one in
     let s = H.sized in
@@ -150,19 +150,19 @@ one a xs t rank H k =
       stored = λ q h. let f : q ≡ 0 = omega arith in rw f H.sample;
     } in
     let Q : PassedTable a t = record { room = H.lent.1; cells = λ ℓ i j u v o h. absurd (omega arith) } in
-    let nine : (n : ℕ) → ReadNumber a xs t rank n → n ≡ 9 = λ n h. (read_rows a xs t rank h).row-9.1 ((P, Q, omega (arith, H.lent.2)), omega arith) in
+    let nine : (n : ℕ) → ReadNumber a xs t rank n → n ≡ 9 = λ n h. (read_rows a xs t rank h).row_9.1 ((P, Q, omega (arith, H.lent.2)), omega arith) in
     let r = read_number a xs t rank in
     (nine k, λ g. subst (ReadNumber a xs t rank) (nine _ r ∙ sym g) r)
 
 -- what is worked out for a case
 abbrev pub Worked : Case → Type 0
 Worked (permitted a b q e) = (fits (a ∷ q ∷ b ∷ []) (e ∷ []) ≡ true) × (perm_of (a ∷ q ∷ b ∷ []) (e ∷ []) 1 0 2 ≡ true)
-Worked (not-permitted a b q e) = (fits (a ∷ q ∷ b ∷ []) (e ∷ []) ≡ true) × (perm_of (a ∷ q ∷ b ∷ []) (e ∷ []) 1 0 2 ≡ false)
+Worked (not_permitted a b q e) = (fits (a ∷ q ∷ b ∷ []) (e ∷ []) ≡ true) × (perm_of (a ∷ q ∷ b ∷ []) (e ∷ []) 1 0 2 ≡ false)
 Worked (serves s e q) = (fits s (e ∷ []) ≡ true) × (ltb 0 q && ltb q (length s - 1) ≡ true) × (perm_of s (e ∷ []) 1 0 q && perm_of s (e ∷ []) 1 q (length s - 1) ≡ true) × (whole s (e ∷ []) ≡ 2)
 Worked (ranked s tols r t) = (fits s tols ≡ true) × (listed (read s tols) 0 (length s) ≡ r) × (whole s tols ≡ t)
 Worked (costs s tols k i j v) = (fits s tols ≡ true) × (from_to 1 (length tols) k && (ltb i j && ltb j (length s)) ≡ true) × (cell s tols k i j ≡ v)
-Worked two-samples = Unit {0}
-Worked (one-sample number) = number ≡ 9
+Worked two_samples = Unit {0}
+Worked (one_sample number) = number ≡ 9
 Worked (paused counters line) = Holds (paused counters line)
 
 -- the stretch from a to b past q
@@ -171,18 +171,18 @@ judged a b q e h = (fit (a ∷ q ∷ b ∷ []) (e ∷ []) h).decides 1 0 2 (omeg
 
 holds : (c : Case) → Worked c → Holds c
 holds (permitted a b q e) w = (judged a b q e w.0).right w.1
-holds (not-permitted a b q e) w = (judged a b q e w.0).wrong w.1
+holds (not_permitted a b q e) w = (judged a b q e w.0).wrong w.1
 holds (serves s e q) w =
     let F = fit s (e ∷ []) w.0 in
     let t = (both_decided (ltb 0 q) (ltb q (length s - 1)) (by_less 0 q) (by_less q (length s - 1))).right w.1 in
     serve s e q F t.0 t.1 (and_left _ _ w.2) (and_right (perm_of s (e ∷ []) 1 0 q) _ w.2) w.3
-holds (ranked s tols r t) w = all-ranks s tols (fit s tols w.0) r t w.1 w.2
+holds (ranked s tols r t) w = all_ranks s tols (fit s tols w.0) r t w.1 w.2
 holds (costs s tols k i j v) w =
     let t = (both_decided (from_to 1 (length tols) k) (ltb i j && ltb j (length s)) (from_to_decided 1 (length tols) k)
     (both_decided (ltb i j) (ltb j (length s)) (by_less i j) (by_less j (length s)))).right w.1 in
-    rw w.2 at (all-costs s tols (fit s tols w.0) k i j t.0.0 t.0.1 t.1.0 t.1.1)
-holds two-samples w = two
-holds (one-sample number) w = rw w one
+    rw w.2 at (all_costs s tols (fit s tols w.0) k i j t.0.0 t.0.1 t.1.0 t.1.1)
+holds two_samples w = two
+holds (one_sample number) w = rw w one
 holds (paused counters line) w = w
 
 -- and for each of a table

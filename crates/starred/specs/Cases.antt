@@ -43,7 +43,7 @@ pub record Ranked (s : List Sample) (tols rank : List ℕ) (total : ℕ) : Type 
   pub levels : ℕ → List ℕ
   pub chosen : Chosen (PermitOf s tols) (length tols) 0 (length s - 1) levels
   pub rank_is : listed (ranks levels (length tols)) 0 (length s) ≡ rank
-  pub total-is : size levels (length tols) ≡ total
+  pub total_is : size levels (length tols) ≡ total
 
 -- a trace that holds one sample, and all that a read asks for
 pub record OneHeld (a : Sizes) (xs : Samples) (t rank : List ℕ) : Type 0 where
@@ -63,7 +63,7 @@ file (c ∷ cs) =
 pub data Case : Type 0 where
   -- from a to b past q, at a tolerance
   permitted : Sample → Sample → Sample → ℕ → Case
-  not-permitted : Sample → Sample → Sample → ℕ → Case
+  not_permitted : Sample → Sample → Sample → ℕ → Case
   -- samples, and one level at a tolerance: the first sample, sample q and the last are a minimal family
   serves : List Sample → ℕ → ℕ → Case
   -- samples and tolerances: the ranks and the total
@@ -71,20 +71,20 @@ pub data Case : Type 0 where
   -- samples and tolerances, level k and stretch (i, j): the cost
   costs : List Sample → List ℕ → ℕ → ℕ → ℕ → ℕ → Case
   -- two samples, any tolerances: each rank, and the total, is the number of levels
-  two-samples : Case
+  two_samples : Case
   -- a read of one sample: refused, with this number and no other
-  one-sample : ℕ → Case
+  one_sample : ℕ → Case
   -- counters, and their pause line
   paused : List ℕ → ℕ → Case
 
 abbrev pub Holds : Case → Type 0
 Holds (permitted a b q e) = Permitted (buffered (a ∷ q ∷ b ∷ [])) 0 2 e
-Holds (not-permitted a b q e) = Permitted (buffered (a ∷ q ∷ b ∷ [])) 0 2 e → ⊥
+Holds (not_permitted a b q e) = Permitted (buffered (a ∷ q ∷ b ∷ [])) 0 2 e → ⊥
 Holds (serves s e q) = Minimal (PermitOf s (e ∷ [])) 1 0 (length s - 1) (λ ℓ. 0 ∷ q ∷ (length s - 1) ∷ [])
 Holds (ranked s tols rank total) = Ranked s tols rank total
 Holds (costs s tols k i j v) = Cost (PermitOf s tols) k i j v
-Holds two-samples = (a b : Sample) (tols : List ℕ) → length tols ≤ 16 → Ranked (a ∷ b ∷ []) tols (length tols ∷ length tols ∷ []) (length tols)
-Holds (one-sample number) = (a : Sizes) (xs : Samples) (t rank : List ℕ) → OneHeld a xs t rank → (k : ℕ) → ReadNumber a xs t rank k ↔ (k ≡ number)
+Holds two_samples = (a b : Sample) (tols : List ℕ) → length tols ≤ 16 → Ranked (a ∷ b ∷ []) tols (length tols ∷ length tols ∷ []) (length tols)
+Holds (one_sample number) = (a : Sizes) (xs : Samples) (t rank : List ℕ) → OneHeld a xs t rank → (k : ℕ) → ReadNumber a xs t rank k ↔ (k ≡ number)
 Holds (paused counters line) = pause_line_of (file counters) ≡ record { outcome = Done; sum = line }
 
 abbrev pub All : List Case → Type 0
@@ -108,16 +108,16 @@ abbrev pub starred : List Case
 starred =
     -- (0,0) to (10,0) past (13,4): permitted at 5, not at 4. The infinite line would say 4
     permitted (at 0 0) (at 10 0) (at 13 4) 5
-    ∷ not-permitted (at 0 0) (at 10 0) (at 13 4) 4
+    ∷ not_permitted (at 0 0) (at 10 0) (at 13 4) 4
     -- the same past (-3,4): 5 yes, 4 no
     ∷ permitted (at 0 0) (at 10 0) (plain (minus 3) (pos 4)) 5
-    ∷ not-permitted (at 0 0) (at 10 0) (plain (minus 3) (pos 4)) 4
+    ∷ not_permitted (at 0 0) (at 10 0) (plain (minus 3) (pos 4)) 4
     -- (0,0) to (0,0) past (3,4): 5 yes, 4 no
     ∷ permitted (at 0 0) (at 0 0) (at 3 4) 5
-    ∷ not-permitted (at 0 0) (at 0 0) (at 3 4) 4
+    ∷ not_permitted (at 0 0) (at 0 0) (at 3 4) 4
     -- (-16384,-16384) to (16384,16384) past (16384,-16384): 23,171 yes, 23,170 no
     ∷ permitted (plain (minus 16384) (minus 16384)) (at 16384 16384) (plain (pos 16384) (minus 16384)) 23171
-    ∷ not-permitted (plain (minus 16384) (minus 16384)) (at 16384 16384) (plain (pos 16384) (minus 16384)) 23170
+    ∷ not_permitted (plain (minus 16384) (minus 16384)) (at 16384 16384) (plain (pos 16384) (minus 16384)) 23170
     -- (0,0) to (20,2) past (10,2) at 1: yes, since 400 ≤ 404
     ∷ permitted (at 0 0) (at 20 2) (at 10 2) 1
     -- (0,0), (10,2), (20,2), (30,0), one level at 1: samples 1 or 2 serve alike; ranks 1 0 1 1
@@ -134,8 +134,8 @@ starred =
     -- and with the restart marked, as dayline prints them
     ∷ ranked day (1 ∷ 4 ∷ 16 ∷ []) (3 ∷ 0 ∷ 3 ∷ 1 ∷ 3 ∷ []) 7
     -- two samples, m levels: ranks m and m, total m. One sample: read refused, 9
-    ∷ two-samples
-    ∷ one-sample 9
+    ∷ two_samples
+    ∷ one_sample 9
     -- counters 500, 900, 120, 200: pause line 600
     ∷ paused (500 ∷ 900 ∷ 120 ∷ 200 ∷ []) 600
     ∷ []

@@ -61,9 +61,9 @@ fine_by k i j v o = (
 )
 
 module _ (t : List ℕ) (N n : ℕ) where
-  row-decided : (k i : ℕ) → i < n → Decides ((j : ℕ) → i < j → j < n → Fine k i j (cell t N k i j)) (row_ok t (at N k i (i + 1)) k (n - (i + 1)))
+  row_decided : (k i : ℕ) → i < n → Decides ((j : ℕ) → i < j → j < n → Fine k i j (cell t N k i j)) (row_ok t (at N k i (i + 1)) k (n - (i + 1)))
   unfolding row_ok
-  row-decided k i h =
+  row_decided k i h =
       carry
       (λ p j a b. to j a (p (j - (i + 1)) (omega arith)))
       (λ p d a. of d (p (i + 1 + d) (omega arith) (omega arith)))
@@ -81,22 +81,22 @@ module _ (t : List ℕ) (N n : ℕ) where
           let g : i + 1 + d - i ≡ d + 1 = omega arith in
           rw (e, g) at ((fine_by k i (i + 1 + d) (cell t N k i (i + 1 + d)) (omega arith)).0 f)
 
-  level-decided : (k : ℕ) → Decides ((i j : ℕ) → i < j → j < n → Fine k i j (cell t N k i j)) (level_ok t N n k)
+  level_decided : (k : ℕ) → Decides ((i j : ℕ) → i < j → j < n → Fine k i j (cell t N k i j)) (level_ok t N n k)
   unfolding level_ok
-  level-decided k =
+  level_decided k =
       carry
       (λ p i j a b. p i (omega arith) j a b)
       (λ p i a j b d. p i j b d)
-      (all_decided (λ i. (j : ℕ) → i < j → j < n → Fine k i j (cell t N k i j)) _ (n - 1) (λ i a. row-decided k i (omega arith)))
+      (all_decided (λ i. (j : ℕ) → i < j → j < n → Fine k i j (cell t N k i j)) _ (n - 1) (λ i a. row_decided k i (omega arith)))
 
   -- check 5 of the cells: yes exactly when every cell of a stretch i < j < n may hold what it holds
-  pub cells-decided : (m : ℕ) → Decides (Checked (cell t N) m n) (cells_ok t N n m)
+  pub cells_decided : (m : ℕ) → Decides (Checked (cell t N) m n) (cells_ok t N n m)
   unfolding cells_ok
-  cells-decided m =
+  cells_decided m =
       carry
       (λ p k i j a b o h. to k a (p (k - 1) (omega arith)) i j o h)
       (λ p l a i j o h. p (l + 1) i j (omega arith) (omega arith) o h)
-      (all_decided (λ l. (i j : ℕ) → i < j → j < n → Fine (l + 1) i j (cell t N (l + 1) i j)) _ m (λ l a. level-decided (l + 1)))
+      (all_decided (λ l. (i j : ℕ) → i < j → j < n → Fine (l + 1) i j (cell t N (l + 1) i j)) _ m (λ l a. level_decided (l + 1)))
     where
       to : (k : ℕ) → 1 ≤ k → ((i j : ℕ) → i < j → j < n → Fine (k - 1 + 1) i j (cell t N (k - 1 + 1) i j)) → (i j : ℕ) → i < j → j < n → Fine k i j (cell t N k i j)
       to k a f = let e : k - 1 + 1 ≡ k = omega arith in rw e at f

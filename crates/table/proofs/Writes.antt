@@ -64,12 +64,12 @@ module _ (N : ℕ) (G : ℕ → ℕ → ℕ → ℕ) where
     pub wrote_as : (H : ℕ → ℕ → ℕ → ℕ) → ((k i j : ℕ) → S k i j → G k i j ≡ H k i j) → Wrote N S H t e
     wrote_as H h = record { same = w.same; named = λ k i j s. w.named k i j s ∙ h k i j s; other = w.other }
 
-    pub wrote-more : (R Q : ℕ → ℕ → ℕ → Type 0) (f : List ℕ) → Wrote N R G e f → Inside N R
+    pub wrote_more : (R Q : ℕ → ℕ → ℕ → Type 0) (f : List ℕ) → Wrote N R G e f → Inside N R
         → ((k i j : ℕ) → S k i j → R k i j → ⊥)
         → ((k i j : ℕ) → Q k i j → S k i j ⊎ R k i j)
         → ((k i j : ℕ) → S k i j → Q k i j) → ((k i j : ℕ) → R k i j → Q k i j)
         → Wrote N Q G t f
-    wrote-more R Q f x in_r apart split left right = record {
+    wrote_more R Q f x in_r apart split left right = record {
       same = x.same ∙ w.same;
       named = λ k i j s. ⊎_elim
           (λ p. keep k i j p ∙ w.named k i j p)
@@ -100,8 +100,8 @@ module _ (N : ℕ) (S : ℕ → ℕ → ℕ → Type 0) (G : ℕ → ℕ → ℕ
   miss a off k i j s g = let q = here a k i j s g in off (rw (q.level, q.from, q.to) s)
 
   -- the written table is one
-  pub wrote-unique : (e f : List ℕ) → Wrote N S G t e → Wrote N S G t f → e ≡ f
-  wrote-unique e f w x = ext_get_or 0 e f (w.same ∙ sym x.same) (λ a h. same_at a (hit? a))
+  pub wrote_unique : (e f : List ℕ) → Wrote N S G t e → Wrote N S G t f → e ≡ f
+  wrote_unique e f w x = ext_get_or 0 e f (w.same ∙ sym x.same) (λ a h. same_at a (hit? a))
     where
       same_at : (a : ℕ) → Dec (Hit a) → get_or e a 0 ≡ get_or f a 0
       same_at a (yes s) = rw (at_all N a) at (w.named _ _ _ s ∙ sym (x.named _ _ _ s))
@@ -112,17 +112,17 @@ module _ (N : ℕ) (S : ℕ → ℕ → ℕ → Type 0) (G : ℕ → ℕ → ℕ
     pub named : (k i j : ℕ) → S k i j → a ≡ at N k i j → x ≡ G k i j
     pub other : ((k i j : ℕ) → S k i j → a ≡ at N k i j → ⊥) → x ≡ get_or t a 0
 
-  holds-some : (a : ℕ) → Dec (Hit a) → (x : ℕ) × Holds a x
-  holds-some a (yes s) = (
+  holds_some : (a : ℕ) → Dec (Hit a) → (x : ℕ) × Holds a x
+  holds_some a (yes s) = (
     G (suc (a / N / N)) (a / N % N) (a % N),
     record { named = λ k i j p g. let q = here a k i j p g in rw (q.level, q.from, q.to) refl; other = λ off. absurd (off _ _ _ s (sym (at_all N a))) },
   )
-  holds-some a (no off) = (get_or t a 0, record { named = λ k i j p g. absurd (miss a off k i j p g); other = λ h. refl })
+  holds_some a (no off) = (get_or t a 0, record { named = λ k i j p g. absurd (miss a off k i j p g); other = λ h. refl })
 
   -- and there is one, where the table has room for every cell that S names
-  pub wrote-some : ((k i j : ℕ) → S k i j → at N k i j < length t) → (e : List ℕ) × Wrote N S G t e
-  wrote-some room =
-      let w = anew Holds (length t) t (le_refl (length t)) (λ a h. holds-some a (hit? a)) in (
+  pub wrote_some : ((k i j : ℕ) → S k i j → at N k i j < length t) → (e : List ℕ) × Wrote N S G t e
+  wrote_some room =
+      let w = anew Holds (length t) t (le_refl (length t)) (λ a h. holds_some a (hit? a)) in (
         w.0,
         record {
           same = w.1.same;

@@ -9,5 +9,5 @@ pub record SumAt (c : ℕ → ℕ → ℕ) (p j sum : ℕ) : Type 0 where
 
 -- and the chosen stop after p
 pub record Stopped (c : ℕ → ℕ → ℕ) (p j sum to : ℕ) : Type 0 where
-  pub sum-at : SumAt c p j sum
+  pub sum_at : SumAt c p j sum
   pub to_is : to ≡ next c p j

@@ -20,10 +20,10 @@ use Rattle.trace.specs.declared.Uploaded.{Uploaded}
 use Rattle.trace.specs.Calls.{sizes, Buffers, Put, holding}
 use Rattle.checks.specs.Numbers.{OneLength}
 use Rattle.trace.specs.Upload.{uploaded, firsts, zipped, Puts, UploadGives}
-use Rattle.trace.specs.Upload.Puts.{all-taken, one-refused, one-taken}
+use Rattle.trace.specs.Upload.Puts.{all_taken, one_refused, one_taken}
 use Rattle.checks.proofs.Decided.{lists_decided}
 use Rattle.checks.proofs.Passed.{put_passed}
-use Rattle.trace.proofs.Formulas.{put-adds, added-cells}
+use Rattle.trace.proofs.Formulas.{put_adds, added_cells}
 use Rattle.trace.proofs.Upload.{no_sample}
 
 -- ---- one sample stored
@@ -53,16 +53,16 @@ unfolding sum
 leaves_none a b zs stop = record { few = omega arith; trace = rw (add-zero a.held) refl; cells = refl; added = λ p l. absurd (omega arith); kept = λ q h. refl }
 
 pub puts_leave : {a : Trace} {b e : Buffers} {zs : List Sample} {r : Uploaded} → Puts a b zs r e → Leaves a b zs r e
-puts_leave {a} {b} all-taken = leaves_none a b [] Stop.AllTaken
-puts_leave {a} {b} {zs = zs} (one-refused {why = why} G h) = let N = G.refused why h in rw (N.trace, N.lent) (leaves_none a b zs (Stop.Refused why))
-puts_leave {a} {b} {e} (one-taken {c = c} {x = x} {xs = xs} {r = r} {q = q} G h P) =
+puts_leave {a} {b} all_taken = leaves_none a b [] Stop.AllTaken
+puts_leave {a} {b} {zs = zs} (one_refused {why = why} G h) = let N = G.refused why h in rw (N.trace, N.lent) (leaves_none a b zs (Stop.Refused why))
+puts_leave {a} {b} {e} (one_taken {c = c} {x = x} {xs = xs} {r = r} {q = q} G h P) =
     let n = a.held in
-    let A = put-adds a b n x r c G h refl in
+    let A = put_adds a b n x r c G h refl in
     let L = rw A.trace at (puts_leave P) in
     record {
       few = omega (arith, L.few);
       trace = L.trace ∙ ap (holding a) (let s : n + 1 + q.added ≡ n + suc q.added = omega arith in s);
-      cells = rw (added-cells a b n x r c G h refl, L.cells, sum_first q.added (λ p. a.levels * (n + p)), add-zero n)
+      cells = rw (added_cells a b n x r c G h refl, L.cells, sum_first q.added (λ p. a.levels * (n + p)), add-zero n)
           (ap (λ s. a.levels * n + s) (sum_same q.added _ _ (λ p. ap (λ s. a.levels * s) (omega arith))));
       added = added L A;
       kept = λ p o. L.kept p (⊎_elim (λ l. inl (omega arith)) (λ l. inr (omega arith)) o) ∙ rw A.samples (store_other b.samples n p x (⊎_elim (λ l e. omega arith) (λ l e. omega arith) o));
@@ -97,9 +97,9 @@ firsts_length q us o = (
 )
 
 puts_firsts : {a : Trace} {b e : Buffers} {zs : List Sample} {r : Uploaded} → Puts a b zs r e → Puts a b (take r.added zs) (uploaded Stop.AllTaken r.trace r.added r.cells) e
-puts_firsts all-taken = all-taken
-puts_firsts (one-refused {why = why} G h) = let N = G.refused why h in rw (N.trace, N.lent) all-taken
-puts_firsts (one-taken G h P) = one-taken G h (puts_firsts P)
+puts_firsts all_taken = all_taken
+puts_firsts (one_refused {why = why} G h) = let N = G.refused why h in rw (N.trace, N.lent) all_taken
+puts_firsts (one_taken G h P) = one_taken G h (puts_firsts P)
 
 pub upload_firsts : (a : Trace) (b : Buffers) (us : Samples) (r : Uploaded) (e : Buffers) (us' : Samples) → UploadGives a b us r e us'
     → UploadGives a b (firsts r.added us) (uploaded Stop.AllTaken r.trace r.added r.cells) e (firsts r.added us)
@@ -110,5 +110,5 @@ upload_firsts a b us r e us' G = elim (decided _ (lists_decided us)) [
         puts = λ p. rw (firsts_zipped r.added us.across us.up us.marks) (puts_firsts (G.puts o));
         lists = refl;
       }
-  | no n ↦ let P = G.unequal n in rw (P.0, P.1) (record { unequal = λ m. absurd (m (refl, refl)); puts = λ p. all-taken; lists = refl })
+  | no n ↦ let P = G.unequal n in rw (P.0, P.1) (record { unequal = λ m. absurd (m (refl, refl)); puts = λ p. all_taken; lists = refl })
 ]

@@ -18,7 +18,7 @@ use Rattle.table.specs.Table.{cell}
 use Rattle.costs.specs.Costs.{Named}
 use Rattle.permission.specs.Finest.{perm}
 use Rattle.costs.specs.Walk.{Rewritten}
-use Rattle.costs.proofs.Exit.{held_end, put-checked}
+use Rattle.costs.proofs.Exit.{held_end, put_checked}
 use Rattle.trace.specs.declared.Trace.{Trace}
 use Rattle.trace.specs.declared.Changed.{Changed}
 use Rattle.checks.specs.Numbers.{PutNumber}
@@ -29,7 +29,7 @@ use Rattle.change.specs.Change.{Ready, Changes}
 use Rattle.sizes.proofs.Held.{held_others}
 use Rattle.checks.proofs.Passed.{put_passed}
 use Rattle.trace.proofs.Ready.{put_ready, set_each}
-use Rattle.costs.proofs.Meaning.{rewritten-cells, cells-rewritten}
+use Rattle.costs.proofs.Meaning.{rewritten_cells, cells_rewritten}
 
 -- no call is both carried out and refused
 pub done_refused : {A : Type 0} {o : Outcome} {why : Refusal} → o ≡ Done → o ≡ Refused why → A
@@ -58,23 +58,23 @@ put_able a b v x h =
 
 module _ {a : Trace} {b : Buffers} {v : ℕ} {x : Sample} where
   -- the checks refuse, and nothing is written
-  pub refused-gives : {o : Outcome} {why : Refusal} → PutNumber (sizes a) b.samples b.table v x (code o) → o ≡ Refused why
+  pub refused_gives : {o : Outcome} {why : Refusal} → PutNumber (sizes a) b.samples b.table v x (code o) → o ≡ Refused why
       → PutGives a b v x (record { outcome = o; trace = a; cells = 0 }) b
-  refused-gives h g = record {
+  refused_gives h g = record {
     number = h;
     done = λ d. done_refused d g;
     refused = λ w f. record { trace = refl; lent = refl; count = refl };
   }
 
   -- the sample is put
-  pub changed-gives : {cells : ℕ} {e : Buffers} → PutNumber (sizes a) b.samples b.table v x 0
+  pub changed_gives : {cells : ℕ} {e : Buffers} → PutNumber (sizes a) b.samples b.table v x 0
       → Changes (sizes (holding a (held_with a.held v))) b.samples b.table v x cells e.samples e.table
       → PutGives a b v x (record { outcome = Done; trace = holding a (held_with a.held v); cells = cells }) e
-  changed-gives {cells} {e} h C =
+  changed_gives {cells} {e} h C =
       let A = put_able a b v x h in
       let R = A.ready in
       let z = R.sizes in
-      let w = rewritten-cells a.capacity (store b.samples v x) a.tolerances a.levels v (held_with a.held v) b.table
+      let w = rewritten_cells a.capacity (store b.samples v x) a.tolerances a.levels v (held_with a.held v) b.table
       z.1 (omega arith) z.4 R.ranged A.fine e.table C.cells in
       record {
         number = h;
@@ -88,7 +88,7 @@ pub put_rewritten : {a : Trace} {b e : Buffers} {v n : ℕ} {x : Sample} {r : Ch
 put_rewritten {a} {b} {e} {v} {n} {x} A P =
     let R = A.ready in
     let z = R.sizes in
-    cells-rewritten a.capacity (store b.samples v x) a.tolerances a.levels v n b.table z.1 (omega arith) z.4 R.ranged A.fine
+    cells_rewritten a.capacity (store b.samples v x) a.tolerances a.levels v n b.table z.1 (omega arith) z.4 R.ranged A.fine
     e.table (rw P.samples at P.cells)
 
 -- a sample put leaves what checks 1 to 5 pass
@@ -118,6 +118,6 @@ put_keeps {a} {b} {e} {v} {x} h P =
       },
       record {
         room = rw P.cells.same p.1.room;
-        cells = put-checked a.capacity a.levels v a.held _ others b.table (store s v x) a.tolerances e.table z.4 z.1 z.2 p.1.cells (put_rewritten A P);
+        cells = put_checked a.capacity a.levels v a.held _ others b.table (store s v x) a.tolerances e.table z.4 z.1 z.2 p.1.cells (put_rewritten A P);
       },
     )

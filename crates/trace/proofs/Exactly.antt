@@ -17,12 +17,12 @@ use Rattle.sample.proofs.Decided.{sample_decided}
 use Rattle.checks.proofs.Decided.{lent_table, stored_decided}
 use Rattle.trace.specs.Calls.{sizes, Buffers, holding}
 use Rattle.trace.specs.Upload.{stopped, zipped, Puts, UploadGives}
-use Rattle.trace.specs.Upload.Puts.{all-taken, one-refused, one-taken}
+use Rattle.trace.specs.Upload.Puts.{all_taken, one_refused, one_taken}
 use Rattle.checks.specs.Rows.{Passed, PassedTable}
-use Rattle.checks.proofs.Passed.{table-past, put_passed}
+use Rattle.checks.proofs.Passed.{table_past, put_passed}
 use Rattle.checks.proofs.Exactly.{TraceRows, trace_rows, put_rows}
 use Rattle.trace.proofs.Calls.{put_keeps}
-use Rattle.trace.proofs.Formulas.{put-adds}
+use Rattle.trace.proofs.Formulas.{put_adds}
 use Rattle.trace.proofs.Upload.{no_sample, zipped_length}
 
 -- ---- upload
@@ -30,7 +30,7 @@ use Rattle.trace.proofs.Upload.{no_sample, zipped_length}
 next_number : (a : Trace) (xs : Samples) (t : List ℕ) (x : Sample) {k : ℕ} → Passed (sizes a) xs × PassedTable (sizes a) t → PutNumber (sizes a) xs t a.held x k
     → First 6 (Valid x → ⊥) (First 7 (a.held ≡ a.capacity) Good) k
 next_number a xs t x p h =
-    let f = (table-past (sizes a) xs t {rest = First 6 (Valid x → ⊥) (PlaceNumber (sizes a) a.held Good)} h).next p in
+    let f = (table_past (sizes a) xs t {rest = First 6 (Valid x → ⊥) (PlaceNumber (sizes a) a.held Good)} h).next p in
     ⊎_elim inl (λ s. inr (s.0, ⊎_elim (λ z. inl (z.0.1, z.1)) (λ z. inr (λ e. z.0 (refl, e), ⊎_elim (λ l. absurd (omega arith)) (λ l. l.1) z.1)) s.1)) f
 
 -- the numbers that are left: all taken, 6 and 7
@@ -47,40 +47,40 @@ pub record StopRows (a : Trace) (zs : List Sample) (r : Uploaded) : Type 0 where
   -- each sample before the stop is valid and found room
   pub taken : (q : ℕ) → q < r.added → Valid (get_or zs q no_sample) × (a.held + q < a.capacity)
   -- the next has a coordinate out of range, or a mark above 1
-  pub row-6 : stopped r.stop ≡ 6 ↔ (r.added < length zs) × (Valid (get_or zs r.added no_sample) → ⊥)
+  pub row_6 : stopped r.stop ≡ 6 ↔ (r.added < length zs) × (Valid (get_or zs r.added no_sample) → ⊥)
   -- the next is valid, and the trace is full
-  pub row-7 : stopped r.stop ≡ 7 ↔ (r.added < length zs) × Valid (get_or zs r.added no_sample) × (a.held + r.added ≡ a.capacity)
+  pub row_7 : stopped r.stop ≡ 7 ↔ (r.added < length zs) × Valid (get_or zs r.added no_sample) × (a.held + r.added ≡ a.capacity)
   -- there is no next
-  pub row-0 : stopped r.stop ≡ 0 ↔ r.added ≡ length zs
+  pub row_0 : stopped r.stop ≡ 0 ↔ r.added ≡ length zs
   -- there is no other number
   pub only : Left (stopped r.stop)
 
 pub stop_rows : {a : Trace} {b e : Buffers} {zs : List Sample} {r : Uploaded} → Passed (sizes a) b.samples × PassedTable (sizes a) b.table → Puts a b zs r e → StopRows a zs r
-stop_rows p all-taken = record {
+stop_rows p all_taken = record {
   taken = λ q l. absurd (omega arith);
-  row-6 = (λ e. absurd (omega arith), λ s. absurd (omega (arith, s.0)));
-  row-7 = (λ e. absurd (omega arith), λ s. absurd (omega (arith, s.0)));
-  row-0 = (λ e. refl, λ e. refl);
+  row_6 = (λ e. absurd (omega arith), λ s. absurd (omega (arith, s.0)));
+  row_7 = (λ e. absurd (omega arith), λ s. absurd (omega (arith, s.0)));
+  row_0 = (λ e. refl, λ e. refl);
   only = inl refl;
 }
-stop_rows {a} {b} p (one-refused {x = x} {why = why} G h) =
+stop_rows {a} {b} p (one_refused {x = x} {why = why} G h) =
     let f = next_number a b.samples b.table x p (rw h at G.number) in
     let six = first_is (first_has (λ k. k ≡ 6 → ⊥) (λ e. omega arith) (λ z e. omega arith)) f in
     let seven = first_later _ (sample_decided x) (λ e. omega arith) (first_is (λ z e. omega arith)) f in
     record {
       taken = λ q l. absurd (omega arith);
-      row-6 = (λ e. (omega arith, six.0 e), λ s. six.1 s.1);
-      row-7 = (λ e. let s = seven.0 e in (omega arith, s.0, omega (arith, s.1)), λ s. seven.1 (s.1, omega (arith, s.2)));
-      row-0 = (λ e. absurd (numbered why e), λ e. absurd (omega arith));
+      row_6 = (λ e. (omega arith, six.0 e), λ s. six.1 s.1);
+      row_7 = (λ e. let s = seven.0 e in (omega arith, s.0, omega (arith, s.1)), λ s. seven.1 (s.1, omega (arith, s.2)));
+      row_0 = (λ e. absurd (numbered why e), λ e. absurd (omega arith));
       only = first_has Left (inr (inl refl)) (first_has Left (inr (inr refl)) inl) f;
     }
-stop_rows {a} {b} p (one-taken {x = x} {xs = xs} {r = r} {q = q} G h P) =
-    let s = rw (put-adds a b a.held x r _ G h refl).trace at (stop_rows (put_keeps (rw h at G.number) (G.done h)) P) in
+stop_rows {a} {b} p (one_taken {x = x} {xs = xs} {r = r} {q = q} G h P) =
+    let s = rw (put_adds a b a.held x r _ G h refl).trace at (stop_rows (put_keeps (rw h at G.number) (G.done h)) P) in
     record {
       taken = both s (put_passed (sizes a) b.samples b.table a.held x (rw h at G.number));
-      row-6 = (λ e. let z = s.row-6.0 e in (omega (arith, z.0), z.1), λ z. s.row-6.1 (omega (arith, z.0), z.1));
-      row-7 = (λ e. let z = s.row-7.0 e in (omega (arith, z.0), z.1, omega (arith, z.2)), λ z. s.row-7.1 (omega (arith, z.0), z.1, omega (arith, z.2)));
-      row-0 = (λ e. ap suc (s.row-0.0 e), λ e. s.row-0.1 (omega arith));
+      row_6 = (λ e. let z = s.row_6.0 e in (omega (arith, z.0), z.1), λ z. s.row_6.1 (omega (arith, z.0), z.1));
+      row_7 = (λ e. let z = s.row_7.0 e in (omega (arith, z.0), z.1, omega (arith, z.2)), λ z. s.row_7.1 (omega (arith, z.0), z.1, omega (arith, z.2)));
+      row_0 = (λ e. ap suc (s.row_0.0 e), λ e. s.row_0.1 (omega arith));
       only = s.only;
     }
   where
@@ -91,15 +91,15 @@ stop_rows {a} {b} p (one-taken {x = x} {xs = xs} {r = r} {q = q} G h P) =
 
 -- by the lists
 no_samples : {a : Trace} {b e : Buffers} {zs : List Sample} {r : Uploaded} → Puts a b zs r e → length zs ≡ 0 → (stopped r.stop ≡ 0) × (r.added ≡ 0)
-no_samples all-taken z = (refl, refl)
-no_samples (one-refused H h) z = absurd (omega arith)
-no_samples (one-taken H h P) z = absurd (omega arith)
+no_samples all_taken z = (refl, refl)
+no_samples (one_refused H h) z = absurd (omega arith)
+no_samples (one_taken H h P) z = absurd (omega arith)
 
 first_sample : {a : Trace} {b e : Buffers} {zs : List Sample} {r : Uploaded} → Puts a b zs r e → 0 < length zs
     → TraceRows (sizes a) (LentSamples (sizes a) b.samples × LentTable (sizes a) b.table) (StoredSamples (sizes a) b.samples × StoredCells (sizes a) b.table) (stopped r.stop)
-first_sample all-taken l = absurd (omega arith)
-first_sample {a} {b} (one-refused {x = x} H h) l = (put_rows (sizes a) b.samples b.table a.held x (rw h at H.number)).trace
-first_sample {a} {b} (one-taken {x = x} H h P) l =
+first_sample all_taken l = absurd (omega arith)
+first_sample {a} {b} (one_refused {x = x} H h) l = (put_rows (sizes a) b.samples b.table a.held x (rw h at H.number)).trace
+first_sample {a} {b} (one_taken {x = x} H h P) l =
     let p = put_passed (sizes a) b.samples b.table a.held x (rw h at H.number) in
     trace_rows (sizes a) (lent_table (sizes a) b.samples b.table) (stored_decided (sizes a) b.samples b.table) {rest = Later 5} (λ k s. s)
     (inr (λ n. n p.0.sized, inr (λ n. n p.0.tolerances, inr (λ n. n (p.0.lent, p.1.room), inr (λ n. omega arith, inr (λ n. n (p.0.stored, p.1.cells), left_later (stop_rows (put_keeps (rw h at H.number) (H.done h)) P).only))))))

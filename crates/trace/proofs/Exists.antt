@@ -32,14 +32,14 @@ use Rattle.checks.specs.Numbers.{StartNumber, PutNumber, AskNumber, ReadNumber}
 use Rattle.sizes.specs.Setup.{held_with}
 use Rattle.trace.specs.Calls.{sizes, empty_trace, no_trace, StartGives, Buffers, buffers, holding, PutGives, AskGives, ReadGives}
 use Rattle.trace.specs.Upload.{uploaded, zipped, Puts, not_uploaded, UploadGives}
-use Rattle.trace.specs.Upload.Puts.{all-taken, one-refused, one-taken}
+use Rattle.trace.specs.Upload.Puts.{all_taken, one_refused, one_taken}
 use Rattle.sizes.specs.Rows.{setup_outcome}
 use Rattle.checks.specs.Rows.{put_outcome, ask_outcome, read_outcome}
 use Rattle.checks.proofs.Decided.{lists_decided}
 use Rattle.checks.proofs.Numbers.{start_number, put_number, ask_number, read_number}
 use Rattle.checks.proofs.Passed.{ask_passed, read_passed, in_range}
 use Rattle.trace.proofs.Ready.{put_ready}
-use Rattle.trace.proofs.Calls.{done_refused, refused-gives, changed-gives}
+use Rattle.trace.proofs.Calls.{done_refused, refused_gives, changed_gives}
 
 -- ---- start
 pub start_some : (m N : ℕ) (tols : List ℕ) → (r : Started) × StartGives m N tols r
@@ -54,7 +54,7 @@ pub put_some : (a : Trace) (b : Buffers) (v : ℕ) (x : Sample) → (r : Changed
 put_some a b v x = by (put_outcome (sizes a) b.samples b.table v x) (put_number (sizes a) b.samples b.table v x)
   where
     by : (o : Outcome) → PutNumber (sizes a) b.samples b.table v x (code o) → (r : Changed) × (e : Buffers) × PutGives a b v x r e
-    by (Refused why) h = (record { outcome = Refused why; trace = a; cells = 0 }, b, refused-gives h refl)
+    by (Refused why) h = (record { outcome = Refused why; trace = a; cells = 0 }, b, refused_gives h refl)
     by Done h =
         let R = put_ready a b.samples b.table v x h in
         let n = held_with a.held v in
@@ -62,17 +62,17 @@ put_some a b v x = by (put_outcome (sizes a) b.samples b.table v x) (put_number 
         let w = rewritten_some a.capacity (perm xs a.tolerances) a.levels v n R.sizes.3 R.sizes.4 b.table R.room in (
           record { outcome = Done; trace = holding a n; cells = named a.levels v n },
           buffers xs w.0,
-          changed-gives h (record { samples = refl; cells = w.1; count = refl }),
+          changed_gives h (record { samples = refl; cells = w.1; count = refl }),
         )
 
 -- ---- upload
 pub puts_some : (a : Trace) (b : Buffers) (zs : List Sample) → (r : Uploaded) × (e : Buffers) × Puts a b zs r e
-puts_some a b [] = (uploaded Stop.AllTaken a 0 0, b, all-taken)
+puts_some a b [] = (uploaded Stop.AllTaken a 0 0, b, all_taken)
 puts_some a b (x ∷ xs) =
     let w = put_some a b a.held x in
     by_outcome w.0.outcome
-    (λ d. let z = puts_some w.0.trace w.1 xs in (uploaded z.0.stop z.0.trace (suc z.0.added) (w.0.cells + z.0.cells), z.1, one-taken w.2 d z.2))
-    (λ why h. (uploaded (Stop.Refused why) w.0.trace 0 0, w.1, one-refused w.2 h))
+    (λ d. let z = puts_some w.0.trace w.1 xs in (uploaded z.0.stop z.0.trace (suc z.0.added) (w.0.cells + z.0.cells), z.1, one_taken w.2 d z.2))
+    (λ why h. (uploaded (Stop.Refused why) w.0.trace 0 0, w.1, one_refused w.2 h))
 
 pub upload_some : (a : Trace) (b : Buffers) (us : Samples) → (r : Uploaded) × (e : Buffers) × UploadGives a b us r e us
 upload_some a b us = elim (decided _ (lists_decided us)) [

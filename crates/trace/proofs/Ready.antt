@@ -15,7 +15,7 @@ use Rattle.sizes.specs.Setup.{Tolerances}
 use Rattle.checks.specs.Numbers.{PutNumber}
 use Rattle.checks.proofs.Passed.{put_passed}
 use Rattle.permission.specs.Finest.{Rising}
-use Rattle.costs.proofs.Exit.{put-steps}
+use Rattle.costs.proofs.Exit.{put_steps}
 use Rattle.trace.specs.declared.Trace.{Trace}
 use Rattle.sizes.specs.Setup.{held_with}
 use Rattle.trace.specs.Calls.{sizes, holding}
@@ -57,5 +57,5 @@ put_ready a xs t v x h =
       };
       marks = le_trans room P.lent.2;
       room = p.1.room;
-      steps = put-steps a.capacity a.levels v a.held n others t p.1.cells;
+      steps = put_steps a.capacity a.levels v a.held n others t p.1.cells;
     }

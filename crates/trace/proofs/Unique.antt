@@ -26,12 +26,12 @@ use Rattle.trace.specs.declared.Levels.{Levels}
 use Rattle.checks.specs.Numbers.{StartNumber, PutNumber, ReadNumber}
 use Rattle.trace.specs.Calls.{sizes, StartGives, Buffers, Put, PutGives, asked, Says, AskGives, ReadGives}
 use Rattle.trace.specs.Upload.{Puts, UploadGives}
-use Rattle.trace.specs.Upload.Puts.{all-taken, one-refused, one-taken}
+use Rattle.trace.specs.Upload.Puts.{all_taken, one_refused, one_taken}
 use Rattle.checks.proofs.Decided.{lists_decided}
 use Rattle.checks.proofs.Numbers.{start_number_one, put_number_one, ask_number_one, read_number_one}
 use Rattle.checks.proofs.Passed.{read_passed}
 use Rattle.costs.proofs.Exit.{rewritten_unique}
-use Rattle.readout.proofs.Meaning.{ranks-one}
+use Rattle.readout.proofs.Meaning.{ranks_one}
 use Rattle.trace.proofs.Calls.{done_refused, refused_one, Able, put_able, put_rewritten, buffers_is}
 
 -- two outcomes with a number that one row leaves no choice of are equal: both Done, or both one refusal
@@ -82,15 +82,15 @@ put_one a b v x r q e f A B =
 
 -- ---- upload
 pub puts_one : {a : Trace} {b : Buffers} {zs : List Sample} {r q : Uploaded} {e f : Buffers} → Puts a b zs r e → Puts a b zs q f → (r ≡ q) × (e ≡ f)
-puts_one all-taken all-taken = (refl, refl)
-puts_one (one-refused {a = a} {b = b} {e = e} {x = x} {r = r} G h) (one-refused {e = f} {r = q} H g) =
+puts_one all_taken all_taken = (refl, refl)
+puts_one (one_refused {a = a} {b = b} {e = e} {x = x} {r = r} G h) (one_refused {e = f} {r = q} H g) =
     let o = put_one a b a.held x r q e f G H in
     (rw (refused_one (ap (λ (r : Changed). r.outcome) o.0) h g, o.0), o.1)
-puts_one (one-refused {a = a} {b = b} {e = e} {x = x} {r = r} G h) (one-taken {c = f} {r = q} H g Q) =
+puts_one (one_refused {a = a} {b = b} {e = e} {x = x} {r = r} G h) (one_taken {c = f} {r = q} H g Q) =
     done_refused g (ap (λ (r : Changed). r.outcome) (sym (put_one a b a.held x r q e f G H).0) ∙ h)
-puts_one (one-taken {a = a} {b = b} {c = e} {x = x} {r = r} G h P) (one-refused {e = f} {r = q} H g) =
+puts_one (one_taken {a = a} {b = b} {c = e} {x = x} {r = r} G h P) (one_refused {e = f} {r = q} H g) =
     done_refused h (ap (λ (r : Changed). r.outcome) (put_one a b a.held x r q e f G H).0 ∙ g)
-puts_one (one-taken {a = a} {b = b} {c = c} {x = x} {xs = xs} {r = r} G h P) (one-taken {c = d} {e = f} {r = q} {q = t} H g Q) =
+puts_one (one_taken {a = a} {b = b} {c = c} {x = x} {xs = xs} {r = r} G h P) (one_taken {c = d} {e = f} {r = q} {q = t} H g Q) =
     let o = put_one a b a.held x r q c d G H in
     let z = puts_one P (subst (λ (u : Changed). Puts u.trace c xs t f) (sym o.0) (subst (λ (u : Buffers). Puts q.trace u xs t f) (sym o.1) Q)) in
     (rw (o.0, z.0), z.1)
@@ -122,11 +122,11 @@ ask_one a xs k i j r q u w A B = (
 
 -- where the call is not refused: yes exactly when the stretch is permitted, and no with l exactly when l is the lowest sample that is marked or lies too far away
 module _ (a : Trace) (xs : Samples) (k i j : ℕ) (r : Asked) (u : Samples) (G : AskGives a xs k i j r u) (n : asked r ≡ 0) where
-  pub ask-yes : (r ≡ Asked.Yes) ↔ Permit xs a.tolerances k i j
-  ask-yes = (λ h. rw h at G.says, λ p. says_one xs i j (get_or a.tolerances (k - 1) 0) r Asked.Yes n G.says p)
+  pub ask_yes : (r ≡ Asked.Yes) ↔ Permit xs a.tolerances k i j
+  ask_yes = (λ h. rw h at G.says, λ p. says_one xs i j (get_or a.tolerances (k - 1) 0) r Asked.Yes n G.says p)
 
-  pub ask-no : (l : ℕ) → (r ≡ Asked.No l) ↔ Spoiler (Passable xs i j (get_or a.tolerances (k - 1) 0)) i j l
-  ask-no l = (λ h. rw h at G.says, λ s. says_one xs i j (get_or a.tolerances (k - 1) 0) r (Asked.No l) n G.says s)
+  pub ask_no : (l : ℕ) → (r ≡ Asked.No l) ↔ Spoiler (Passable xs i j (get_or a.tolerances (k - 1) 0)) i j l
+  ask_no l = (λ h. rw h at G.says, λ s. says_one xs i j (get_or a.tolerances (k - 1) 0) r (Asked.No l) n G.says s)
 
 -- ---- read
 pub levels_same : {r q : Levels} → r.outcome ≡ q.outcome → r.segments ≡ q.segments → r.total ≡ q.total → r ≡ q
@@ -143,7 +143,7 @@ read_one a b ranks r q e f u w A B =
         let p = read_passed (sizes a) b.samples b.table ranks (rw h at A.number) in
         let z = p.0.sized in
         let n = p.0.held in
-        let s = ranks-one b.table a.capacity a.levels a.held z.0 z.1 (omega arith) (omega arith) p.1.cells ranks u w r.segments q.segments r.total q.total
+        let s = ranks_one b.table a.capacity a.levels a.held z.0 z.1 (omega arith) (omega arith) p.1.cells ranks u w r.segments q.segments r.total q.total
         (A.done h) (B.done g) in
         (levels_same o s.1 s.2, A.lent ∙ sym B.lent, s.0)
 

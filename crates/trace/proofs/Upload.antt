@@ -25,13 +25,13 @@ use Rattle.trace.specs.declared.Uploaded.{Uploaded}
 use Rattle.trace.specs.Calls.{sizes, Buffers, holding, PutGives}
 use Rattle.checks.specs.Numbers.{OneLength}
 use Rattle.trace.specs.Upload.{zipped, uploaded, Puts, UploadGives}
-use Rattle.trace.specs.Upload.Puts.{all-taken, one-refused, one-taken}
+use Rattle.trace.specs.Upload.Puts.{all_taken, one_refused, one_taken}
 use Rattle.checks.specs.Rows.{lengths, trace_outcome, upload_outcome, Passed, PassedTable}
 use Rattle.checks.proofs.Decided.{lists_decided}
 use Rattle.checks.proofs.Numbers.{put_stopped}
 use Rattle.checks.proofs.Passed.{trace_passed, put_passed}
-use Rattle.trace.proofs.Calls.{done_refused, refused_one, refused-gives, put_keeps}
-use Rattle.trace.proofs.Formulas.{put-adds, added-cells}
+use Rattle.trace.proofs.Calls.{done_refused, refused_one, refused_gives, put_keeps}
+use Rattle.trace.proofs.Formulas.{put_adds, added_cells}
 
 -- ---- the lists
 abbrev pub no_sample : Sample
@@ -63,9 +63,9 @@ module _ (a : Trace) (b : Buffers) (us : Samples) where
   row one none = and_then (unless one Buffer) (cond none Done (trace_outcome (sizes a) b.samples b.table))
 
   -- refused, it writes nothing
-  pub upload-stopped : {why : Refusal} → before ≡ Refused why → UploadGives a b us (uploaded (Stop.Refused why) a 0 0) b us
+  pub upload_stopped : {why : Refusal} → before ≡ Refused why → UploadGives a b us (uploaded (Stop.Refused why) a 0 0) b us
   unfolding upload_outcome
-  upload-stopped {why} = by _ _ (lists_decided us) (eqb-true (length us.across) 0) (eqb-false (length us.across) 0)
+  upload_stopped {why} = by _ _ (lists_decided us) (eqb-true (length us.across) 0) (eqb-false (length us.across) 0)
     where
       by : (one none : Bool) → Decides (OneLength us) one → (none ≡ true → length us.across ≡ 0) → (none ≡ false → length us.across ≡ 0 → ⊥) → row one none ≡ Refused why
           → UploadGives a b us (uploaded (Stop.Refused why) a 0 0) b us
@@ -79,14 +79,14 @@ module _ (a : Trace) (b : Buffers) (us : Samples) where
         unequal = λ n. absurd (n (d.right refl));
         puts = λ o.
             let some : 0 < length list = omega (arith, zipped_length us.across us.up us.marks o, f refl) in
-            rw (drop-cons list 0 no_sample some) (one-refused (refused-gives {v = a.held} {o = Refused why} (put_stopped (sizes a) b.samples b.table a.held (get_or list 0 no_sample) h) refl) refl);
+            rw (drop-cons list 0 no_sample some) (one_refused (refused_gives {v = a.held} {o = Refused why} (put_stopped (sizes a) b.samples b.table a.held (get_or list 0 no_sample) h) refl) refl);
         lists = refl;
       }
 
   -- else its lists have one length, and unless they are empty checks 1 to 5 have passed
-  pub upload-ready : before ≡ Done → OneLength us × (0 < length us.across → Passed (sizes a) b.samples × PassedTable (sizes a) b.table)
+  pub upload_ready : before ≡ Done → OneLength us × (0 < length us.across → Passed (sizes a) b.samples × PassedTable (sizes a) b.table)
   unfolding upload_outcome
-  upload-ready = by _ _ (lists_decided us) (eqb-true (length us.across) 0)
+  upload_ready = by _ _ (lists_decided us) (eqb-true (length us.across) 0)
     where
       by : (one none : Bool) → Decides (OneLength us) one → (none ≡ true → length us.across ≡ 0) → row one none ≡ Done
           → OneLength us × (0 < length us.across → Passed (sizes a) b.samples × PassedTable (sizes a) b.table)
@@ -140,29 +140,29 @@ underway_none h = record {
 
 module _ {a c : Trace} {b d : Buffers} {zs : List Sample} {i cells : ℕ} (U : Underway a b zs i cells c d) where
   -- no sample is left
-  pub underway-ends : length zs ≤ i → Puts a b zs (uploaded Stop.AllTaken c i cells) d
-  underway-ends h = rw (add-zero i, add-zero cells) at (U.leads (uploaded Stop.AllTaken c 0 0) d (rw (drop_of_length-le zs h) all-taken))
+  pub underway_ends : length zs ≤ i → Puts a b zs (uploaded Stop.AllTaken c i cells) d
+  underway_ends h = rw (add-zero i, add-zero cells) at (U.leads (uploaded Stop.AllTaken c 0 0) d (rw (drop_of_length-le zs h) all_taken))
 
   module _ (l : i < length zs) {r : Changed} {f : Buffers} (G : PutGives c d c.held (get_or zs i no_sample) r f) where
     -- the next is refused
-    pub underway-stops : {t : Trace} {why : Refusal} → t ≡ c → r.outcome ≡ Refused why → Puts a b zs (uploaded (Stop.Refused why) t i cells) f
-    underway-stops {why = why} e h =
-        rw e (rw (add-zero i, add-zero cells, (G.refused why h).trace) at (U.leads (uploaded (Stop.Refused why) r.trace 0 0) f (rw (drop-cons zs i no_sample l) (one-refused G h))))
+    pub underway_stops : {t : Trace} {why : Refusal} → t ≡ c → r.outcome ≡ Refused why → Puts a b zs (uploaded (Stop.Refused why) t i cells) f
+    underway_stops {why = why} e h =
+        rw e (rw (add-zero i, add-zero cells, (G.refused why h).trace) at (U.leads (uploaded (Stop.Refused why) r.trace 0 0) f (rw (drop-cons zs i no_sample l) (one_refused G h))))
 
     -- or it is put
     module _ (h : r.outcome ≡ Done) where
-      pub next-few : r.cells ≤ 4096
-      next-few =
+      pub next_few : r.cells ≤ 4096
+      next_few =
           let p = put_passed (sizes c) d.samples d.table c.held (get_or zs i no_sample) (rw h at G.number) in
-          omega (arith, added-cells c d c.held _ r f G h refl, mul-le-mul {n₁ = c.levels} {m₁ = c.held} {n₂ = 16} {m₂ = 256} p.0.sized.1 (omega (arith, p.4, p.0.sized.3)))
+          omega (arith, added_cells c d c.held _ r f G h refl, mul-le-mul {n₁ = c.levels} {m₁ = c.held} {n₂ = 16} {m₂ = 256} p.0.sized.1 (omega (arith, p.4, p.0.sized.3)))
 
-      pub underway-more : Underway a b zs (i + 1) (cells + r.cells) (holding c (c.held + 1)) f
-      underway-more =
-          let e = (put-adds c d c.held _ r f G h refl).trace in
+      pub underway_more : Underway a b zs (i + 1) (cells + r.cells) (holding c (c.held + 1)) f
+      underway_more =
+          let e = (put_adds c d c.held _ r f G h refl).trace in
           let next : Underway a b zs (i + 1) (cells + r.cells) r.trace f = record {
-            leads = λ q e P. rw (let h : i + 1 + q.added ≡ i + suc q.added = omega arith in h, add_assoc cells r.cells q.cells) (U.leads _ e (rw (drop-cons zs i no_sample l) (one-taken G h (rw (add-one i) at P))));
+            leads = λ q e P. rw (let h : i + 1 + q.added ≡ i + suc q.added = omega arith in h, add_assoc cells r.cells q.cells) (U.leads _ e (rw (drop-cons zs i no_sample l) (one_taken G h (rw (add-one i) at P))));
             within = rw e (omega (arith, U.within));
-            few = omega (arith, U.few, next-few);
+            few = omega (arith, U.few, next_few);
             room = room_on U.room (put_room G);
             ready = λ m. put_keeps (rw h at G.number) (G.done h);
           } in

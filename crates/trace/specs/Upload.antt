@@ -34,10 +34,10 @@ zipped (x ∷ xs) (y ∷ ys) (m ∷ ms) = sample x y m ∷ zipped xs ys ms
 
 -- from the trace a and the buffers b each sample is put at the end, at place n, as put promises: the first refused stops it and is not counted, each before it counts one sample and its cells
 pub data Puts : Trace → Buffers → List Sample → Uploaded → Buffers → Type 0 where
-  all-taken : {a : Trace} {b : Buffers} → Puts a b [] (uploaded Stop.AllTaken a 0 0) b
-  one-refused : {a : Trace} {b e : Buffers} {x : Sample} {xs : List Sample} {r : Changed} {why : Refusal} → PutGives a b a.held x r e → r.outcome ≡ Refused why
+  all_taken : {a : Trace} {b : Buffers} → Puts a b [] (uploaded Stop.AllTaken a 0 0) b
+  one_refused : {a : Trace} {b e : Buffers} {x : Sample} {xs : List Sample} {r : Changed} {why : Refusal} → PutGives a b a.held x r e → r.outcome ≡ Refused why
       → Puts a b (x ∷ xs) (uploaded (Stop.Refused why) r.trace 0 0) e
-  one-taken : {a : Trace} {b c e : Buffers} {x : Sample} {xs : List Sample} {r : Changed} {q : Uploaded} → PutGives a b a.held x r c → r.outcome ≡ Done → Puts r.trace c xs q e
+  one_taken : {a : Trace} {b c e : Buffers} {x : Sample} {xs : List Sample} {r : Changed} {q : Uploaded} → PutGives a b a.held x r c → r.outcome ≡ Done → Puts r.trace c xs q e
       → Puts a b (x ∷ xs) (uploaded q.stop q.trace (suc q.added) (r.cells + q.cells)) e
 
 -- none was taken, since the lists differ in length

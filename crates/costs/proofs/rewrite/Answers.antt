@@ -7,13 +7,13 @@ use Rattle.sample.specs.Samples.{samples}
 use Rattle.permission.specs.Finest.{perm}
 use Rattle.sample.proofs.Coordinate.{fewer_ranged}
 use Rattle.permission.proofs.Perm.{perm_adjacent}
-use Rattle.costs.proofs.Rows.{ends-none, ends_more}
+use Rattle.costs.proofs.Rows.{ends_none, ends_more}
 use Rattle.costs.proofs.Sums.{ends_settled}
 use Rattle.costs.proofs.Tally.{named_none, named_more, named_small}
 use Rattle.costs.proofs.rewrite.Goals as goal
 
 pub loop-j-init : goal.loop-j-init
-loop-j-init c = (ends-none _ _ _ _ _, omega arith, omega arith, sym (named_none _ _))
+loop-j-init c = (ends_none _ _ _ _ _, omega arith, omega arith, sym (named_none _ _))
 
 pub write_end-count-requires : goal.write_end-count-requires
 write_end-count-requires c =

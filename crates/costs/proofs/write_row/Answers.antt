@@ -5,11 +5,11 @@ use native.Mathlib.Omega.{arith}
 use lib.ListN.{length}
 use Rattle.table.specs.Table.{at}
 use Rattle.table.proofs.Address.{at_in}
-use Rattle.costs.proofs.Rows.{row-none, row_more}
+use Rattle.costs.proofs.Rows.{row_none, row_more}
 use Rattle.costs.proofs.write_row.Goals as goal
 
 pub loop-i-init : goal.loop-i-init
-loop-i-init c = (row-none _ _ _ _ (omega arith) (omega arith) _, omega arith, refl)
+loop-i-init c = (row_none _ _ _ _ (omega arith) (omega arith) _, omega arith, refl)
 
 pub price-cost-requires : goal.price-cost-requires
 price-cost-requires c = c.requires.by_index _ (omega arith)

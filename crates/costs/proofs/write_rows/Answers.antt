@@ -7,7 +7,7 @@ use native.Mathlib.Numerals.{add-one}
 use lib.ListN.{length, get_or}
 use Rattle.table.proofs.Address.{room_below}
 use Rattle.costs.proofs.Rows.{rows_none, rows_more}
-use Rattle.costs.proofs.Sums.{rows-small}
+use Rattle.costs.proofs.Sums.{rows_small}
 use Rattle.costs.proofs.write_rows.Goals as goal
 
 pub loop-k-init : goal.loop-k-init
@@ -27,7 +27,7 @@ write_row-count-requires c =
     let sums-small : (i : ℕ) → i ≤ c.args.j → get_or c.rests-sums.result i 0 ≤ 65534 = λ i h. let a = c.args in
     let p = c.requires in
     let e : c.loop-k.k + 1 - 1 ≡ c.loop-k.k = omega arith in
-    rw (c.rests-sums.ensures i h, e) (rows-small _ _ _ _ (omega arith) (omega arith) _ _ a.m c.loop-k.k (omega arith) p.settled p.by_index c.loop-k.invariant.0 (omega arith) (omega arith) i h) in
+    rw (c.rests-sums.ensures i h, e) (rows_small _ _ _ _ (omega arith) (omega arith) _ _ a.m c.loop-k.k (omega arith) p.settled p.by_index c.loop-k.invariant.0 (omega arith) (omega arith) i h) in
     record {
       le_k = omega arith;
       cap_in_bounds = room_next;

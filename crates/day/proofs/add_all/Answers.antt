@@ -3,9 +3,9 @@ use mathlib.Core.Path.{◌≡◌, refl}
 use Prim.Native.Nat.{◌+◌, ◌≤◌, ◌<◌}
 use native.Mathlib.Omega.{arith}
 use Rattle.sample.specs.Samples.{samples}
-use Rattle.pause.proofs.Samples.{sample-there}
+use Rattle.pause.proofs.Samples.{sample_there}
 use Rattle.day.specs.Day.{count}
-use Rattle.day.proofs.Filled.{filled_none, filled_more, all-refused, all_added}
+use Rattle.day.proofs.Filled.{filled_none, filled_more, all_refused, all_added}
 use Rattle.day.proofs.add_all.Goals as goal
 
 pub loop-i-init : goal.loop-i-init
@@ -15,9 +15,9 @@ pub returns-in_default : goal.returns-in_default
 returns-in_default c =
     let i = c.loop-i in
     let there : i.i < count c.args.file.now = omega arith in
-    let g = rw (i.invariant.1, c.sample_of-sample.ensures.value, sample-there c.args.file.now c.requires.0 i.i there) at c.put-added.ensures in
+    let g = rw (i.invariant.1, c.sample_of-sample.ensures.value, sample_there c.args.file.now c.requires.0 i.i there) at c.put-added.ensures in
     record {
-      adds_all = all-refused _ c.requires.0 _ i.invariant.2 there {xs' = samples c.put-added.new.xs c.put-added.new.ys c.put-added.new.marks} g _ c.in_default.is;
+      adds_all = all_refused _ c.requires.0 _ i.invariant.2 there {xs' = samples c.put-added.new.xs c.put-added.new.ys c.put-added.new.marks} g _ c.in_default.is;
       file_value = refl;
     }
 
@@ -26,7 +26,7 @@ loop-i-preserved c =
     let i = c.loop-i in
     let there : i.i < count c.args.file.now = omega arith in
     let next : i.i + 1 ≤ count c.args.file.now = omega arith in
-    let g = rw (i.invariant.1, c.sample_of-sample.ensures.value, sample-there c.args.file.now c.requires.0 i.i there) at c.put-added.ensures in
+    let g = rw (i.invariant.1, c.sample_of-sample.ensures.value, sample_there c.args.file.now c.requires.0 i.i there) at c.put-added.ensures in
     let m = filled_more _ c.requires.0 _ i.invariant.2 there {xs' = samples c.put-added.new.xs c.put-added.new.ys c.put-added.new.marks} g c.in-Done.is in
     (next, m.0, m.1)
 

@@ -4,7 +4,7 @@ use native.Mathlib.Omega.{arith}
 use Rattle.sample.specs.Samples.{samples}
 use Rattle.trace.specs.declared.Trace.{Trace}
 use Rattle.day.specs.Day.{count}
-use Rattle.day.proofs.Reported.{reported-full, reported-few, reported-day}
+use Rattle.day.proofs.Reported.{reported_full, reported_few, reported_day}
 use Rattle.day.proofs.good_day.Goals as goal
 
 pub returns-in_default : goal.returns-in_default
@@ -12,7 +12,7 @@ returns-in_default c =
     let good = c.requires.0 in
     let line = c.refused_line.ensures in
     record {
-      reported = reported-full {xs = samples c.add_all-added.new.xs c.add_all-added.new.ys c.add_all-added.new.marks} good c.add_all-added.ensures.adds_all c.in_default.is line;
+      reported = reported_full {xs = samples c.add_all-added.new.xs c.add_all-added.new.ys c.add_all-added.new.marks} good c.add_all-added.ensures.adds_all c.in_default.is line;
       file_value = refl;
     }
 
@@ -20,7 +20,7 @@ pub returns-in_default-o : goal.returns-in_default-o
 returns-in_default-o c =
     let good = c.requires.0 in
     let q = c.add_all-added.ensures.adds_all.done c.in-Done.is in record {
-      reported = reported-few _ good {xs = samples c.add_all-added.new.xs c.add_all-added.new.ys c.add_all-added.new.marks} q.1 refl (rw q.0 at c.read-levels.ensures) c.in_default-o.is
+      reported = reported_few _ good {xs = samples c.add_all-added.new.xs c.add_all-added.new.ys c.add_all-added.new.marks} q.1 refl (rw q.0 at c.read-levels.ensures) c.in_default-o.is
           c.refused_line-in_default-o.ensures;
       file_value = refl;
     }
@@ -36,7 +36,7 @@ pub returns : goal.returns
 returns c =
     let q = c.add_all-added.ensures.adds_all.done c.in-Done.is in
     let p = c.requires in record {
-      reported = reported-day _ p.0 {xs = samples c.add_all-added.new.xs c.add_all-added.new.ys c.add_all-added.new.marks} q.1 refl (rw q.0 at c.read-levels.ensures) c.in-Done-o.is
+      reported = reported_day _ p.0 {xs = samples c.add_all-added.new.xs c.add_all-added.new.ys c.add_all-added.new.marks} q.1 refl (rw q.0 at c.read-levels.ensures) c.in-Done-o.is
           (rw (q.0, p.1) at c.levels_text.ensures);
       file_value = refl;
     }

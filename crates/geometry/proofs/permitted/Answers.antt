@@ -2,7 +2,7 @@
 use mathlib.Core.Logic.{⊎_elim}
 use native.Mathlib.Omega.{arith}
 use Rattle.sample.specs.Samples.{samples}
-use Rattle.geometry.proofs.Marks.{far-first, marked-first, none-marked}
+use Rattle.geometry.proofs.Marks.{far_first, marked_first, none_marked}
 use Rattle.geometry.proofs.permitted.Goals as goal
 
 pub judge-verdict-requires : goal.judge-verdict-requires
@@ -18,16 +18,16 @@ pub returns-in_default : goal.returns-in_default
 returns-in_default c =
     let a = c.args in
     let g = c.in_default.is in
-    rw g (far-first (samples a.xs.now a.ys.now a.marks.now) a.i a.j a.e c.first_marked-first.ensures (rw g at c.judge-verdict.ensures))
+    rw g (far_first (samples a.xs.now a.ys.now a.marks.now) a.i a.j a.e c.first_marked-first.ensures (rw g at c.judge-verdict.ensures))
 
 pub returns-then-first-j : goal.returns-then-first-j
 returns-then-first-j c =
     let a = c.args in
-    marked-first (samples a.xs.now a.ys.now a.marks.now) a.i a.j a.e c.first_marked-first.ensures (omega arith)
+    marked_first (samples a.xs.now a.ys.now a.marks.now) a.i a.j a.e c.first_marked-first.ensures (omega arith)
     (rw c.in-Yes.is at c.judge-verdict.ensures)
 
 pub returns : goal.returns
 returns c =
     let a = c.args in
-    none-marked (samples a.xs.now a.ys.now a.marks.now) a.i a.j a.e c.first_marked-first.ensures (omega arith)
+    none_marked (samples a.xs.now a.ys.now a.marks.now) a.i a.j a.e c.first_marked-first.ensures (omega arith)
     (rw c.in-Yes.is at c.judge-verdict.ensures)

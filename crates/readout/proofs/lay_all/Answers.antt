@@ -4,11 +4,11 @@ use native.Mathlib.Omega.{arith}
 use Rattle.table.proofs.Address.{room_below}
 use Rattle.readout.specs.Read.{rank}
 use Rattle.readout.specs.Lay.{Ranked}
-use Rattle.readout.proofs.Down.{down-none, down_bare, down-more, ranked}
+use Rattle.readout.proofs.Down.{down_none, down_bare, down_more, ranked}
 use Rattle.readout.proofs.lay_all.Goals as goal
 
 pub loop-k-init : goal.loop-k-init
-loop-k-init c = (down-none _ _ _ _ c.start.ensures _, refl, omega arith)
+loop-k-init c = (down_none _ _ _ _ c.start.ensures _, refl, omega arith)
 
 pub lay_level-requires : goal.lay_level-requires
 lay_level-requires c =
@@ -24,7 +24,7 @@ pub loop-k-preserved : goal.loop-k-preserved
 loop-k-preserved c =
     let l = c.lay_level in
     let v = c.loop-k.invariant in
-    (down-more _ _ _ (omega arith) (omega arith) _ _ (rank c.loop-k.ranks) _ (omega arith) v.2 v.0 l.ensures, l.auto.ranks ∙ v.1, omega arith)
+    (down_more _ _ _ (omega arith) (omega arith) _ _ (rank c.loop-k.ranks) _ (omega arith) v.2 v.0 l.ensures, l.auto.ranks ∙ v.1, omega arith)
 
 pub shape_of-ranks : goal.shape_of-ranks
 shape_of-ranks c =

@@ -7,7 +7,7 @@ use Rattle.sample.specs.Samples.{samples}
 use Rattle.checks.proofs.Passed.{trace_passed}
 use Rattle.trace.specs.Calls.{buffers, holding, PutGives}
 use Rattle.trace.specs.Upload.{zipped}
-use Rattle.trace.proofs.Upload.{no_sample, zipped_length, zipped_at, underway_none, next-few, underway-more, underway-stops, underway-ends}
+use Rattle.trace.proofs.Upload.{no_sample, zipped_length, zipped_at, underway_none, next_few, underway_more, underway_stops, underway_ends}
 use Rattle.trace.proofs.Trace.add_each.Goals as goal
 
 pub loop-i-init : goal.loop-i-init
@@ -34,7 +34,7 @@ returns-in-Refused c =
     let a = c.args in
     rw (zipped_at a.across.now a.up.now a.restarts.now i.i c.requires.0 (omega arith)) (rw (c.sample_at-sample.ensures, c.holding-trace.ensures) at c.admit-next.ensures) in
     record {
-      puts = underway-stops c.loop-i.invariant (left) (next) c.holding-trace.ensures c.in-Refused.is;
+      puts = underway_stops c.loop-i.invariant (left) (next) c.holding-trace.ensures c.in-Refused.is;
       restarts_value = refl;
     }
 
@@ -52,7 +52,7 @@ overflow_add-cells c =
     rw (zipped_at a.across.now a.up.now a.restarts.now i.i c.requires.0 (omega arith)) (rw (c.sample_at-sample.ensures, c.holding-trace.ensures) at c.admit-next.ensures) in
     let U = c.loop-i.invariant in
     let P = (U.ready (left)).0 in
-    omega (arith, U.within, U.few, P.held, P.sized.3, next-few U (left) (next) c.in_default.is)
+    omega (arith, U.within, U.few, P.held, P.sized.3, next_few U (left) (next) c.in_default.is)
 
 pub loop-i-preserved : goal.loop-i-preserved
 loop-i-preserved c =
@@ -60,12 +60,12 @@ loop-i-preserved c =
     let next : let i = c.loop-i in let a = c.args in PutGives (holding a.self i.held) (buffers (samples i.xs i.ys i.marks) i.table) i.held (get_or (zipped a.across.now a.up.now a.restarts.now) i.i no_sample) c.admit-next.result (buffers (samples c.admit-next.new.xs c.admit-next.new.ys c.admit-next.new.marks) c.admit-next.new.table) = let i = c.loop-i in
     let a = c.args in
     rw (zipped_at a.across.now a.up.now a.restarts.now i.i c.requires.0 (omega arith)) (rw (c.sample_at-sample.ensures, c.holding-trace.ensures) at c.admit-next.ensures) in
-    underway-more c.loop-i.invariant (left) (next) c.in_default.is
+    underway_more c.loop-i.invariant (left) (next) c.in_default.is
 
 pub returns : goal.returns
 returns c =
     let i = c.loop-i in
     record {
-      puts = rw c.holding.ensures (underway-ends i.invariant (omega (arith, zipped_length c.args.across.now c.args.up.now c.args.restarts.now c.requires.0)));
+      puts = rw c.holding.ensures (underway_ends i.invariant (omega (arith, zipped_length c.args.across.now c.args.up.now c.args.restarts.now c.requires.0)));
       restarts_value = refl {a = samples c.args.across.now c.args.up.now c.args.restarts.now};
     }

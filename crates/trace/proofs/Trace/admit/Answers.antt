@@ -8,7 +8,7 @@ use Rattle.checks.proofs.Numbers.{put_number}
 use Rattle.checks.proofs.Passed.{put_passed}
 use Rattle.trace.specs.Calls.{sizes, buffers}
 use Rattle.trace.proofs.Ready.{put_ready}
-use Rattle.trace.proofs.Calls.{refused-gives, changed-gives}
+use Rattle.trace.proofs.Calls.{refused_gives, changed_gives}
 use Rattle.trace.proofs.Trace.admit.Goals as goal
 
 pub returns-in_default : goal.returns-in_default
@@ -17,7 +17,7 @@ returns-in_default c =
     let number : let a = c.args in PutNumber (sizes a.self) (samples a.xs.now a.ys.now a.marks.now) a.table.now a.v a.sample (code c.and_then-o.result) = let a = c.args in
     rw (c.and_then-o.ensures, c.sample_outcome-own.ensures, c.sizes.ensures, c.requires)
     (put_number (sizes a.self) (samples a.xs.now a.ys.now a.marks.now) a.table.now a.v a.sample) in
-    refused-gives (number) c.in_default.is
+    refused_gives (number) c.in_default.is
 
 pub held_with-requires : goal.held_with-requires
 unfolding put_outcome
@@ -47,5 +47,5 @@ returns c =
     (put_number (sizes a.self) (samples a.xs.now a.ys.now a.marks.now) a.table.now a.v a.sample) in
     let zero : let a = c.args in PutNumber (sizes a.self) (samples a.xs.now a.ys.now a.marks.now) a.table.now a.v a.sample 0 = rw c.in-Done.is at (number) in
     rw (c.holding-next.ensures, c.held_with.ensures)
-    (changed-gives {e = buffers (samples c.change-cells.new.xs c.change-cells.new.ys c.change-cells.new.marks) c.change-cells.new.table} (zero)
+    (changed_gives {e = buffers (samples c.change-cells.new.xs c.change-cells.new.ys c.change-cells.new.marks) c.change-cells.new.table} (zero)
     (rw (c.sizes-2.ensures, c.holding-next.ensures, c.held_with.ensures) at c.change-cells.ensures))

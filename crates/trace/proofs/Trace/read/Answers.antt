@@ -9,7 +9,7 @@ use Rattle.checks.specs.Numbers.{ReadNumber}
 use Rattle.checks.proofs.Numbers.{read_number}
 use Rattle.checks.specs.Rows.{Passed, PassedTable}
 use Rattle.checks.proofs.Passed.{read_passed}
-use Rattle.readout.proofs.Meaning.{read-ranks}
+use Rattle.readout.proofs.Meaning.{read_ranks}
 use Rattle.trace.proofs.Calls.{done_refused}
 use Rattle.trace.specs.Calls.{sizes}
 use Rattle.trace.proofs.Trace.read.Goals as goal
@@ -47,7 +47,7 @@ returns c =
     let h = p.0.held in
     record {
       number = number;
-      done = λ o. read-ranks _ _ _ _ z.0 z.1 (omega arith) (omega arith) p.1.cells _ _ _ _ c.read-s.ensures;
+      done = λ o. read_ranks _ _ _ _ z.0 z.1 (omega arith) (omega arith) p.1.cells _ _ _ _ c.read-s.ensures;
       refused = λ w g. done_refused c.in-Done.is g;
       lent = refl;
     }
