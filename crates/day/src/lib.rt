@@ -5,7 +5,7 @@ ghost use Rattle.std.specs.Prelude.{◌≡◌, length};
 ghost use Rattle.refusal.specs.declared.Outcome.TheVariants.{Done};
 ghost use Rattle.sample.specs.Samples.{samples};
 ghost use Rattle.pause.specs.Pause.{pause_line_of, pause_sum};
-ghost use Rattle.day.specs.Day.{count, tolerances as dayTolerances, Reported};
+ghost use Rattle.day.specs.Day.{count, tolerances as day_tolerances, Reported};
 ghost use Rattle.day.specs.Fill.{day_trace, Lent, AddsAll};
 
 use refusal::Outcome;
@@ -22,7 +22,7 @@ pub const TEXT_ROOM: usize = 4096;
 pub const FILE_ROOM: usize = 65537;
 
 fn tolerances() -> [u32; 16]
-    ensures { result ≡ dayTolerances }
+    ensures { result ≡ day_tolerances }
 {
     [1, 4, 16, 0, 0, 0, 0, 0, 0, 0, 0, 0, 0, 0, 0, 0]
 }

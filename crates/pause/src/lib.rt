@@ -3,7 +3,7 @@
 
 ghost use Rattle.std.specs.Prelude.{◌≡◌, ◌+◌, ◌*◌, ◌≤◌, length};
 ghost use Rattle.pause.specs.Pause.{file_length_ok, record_bytes, records_outcome, file_outcome, increase, increase_at, pause_sum, pause_line_of};
-ghost use Rattle.pause.specs.Restart.{restarted as restartedAt, mark_of, sample_of};
+ghost use Rattle.pause.specs.Restart.{restarted as restarted_at, mark_of, sample_of};
 
 use record::{BOOT, EDITION, RECORD_BYTES, WITH_BOOT};
 use refusal::{Outcome, Refusal};
@@ -74,7 +74,7 @@ fn file_outcome(s: &[u8]) -> Outcome
 // Whether a restart lies between the records at places p and q.
 fn restarted(s: &[u8], p: usize, q: usize) -> bool
     requires { (p + 16 ≤ length s.now) × (q + 16 ≤ length s.now) }
-    ensures { result ≡ restartedAt s.now p q }
+    ensures { result ≡ restarted_at s.now p q }
 {
     if s[p + EDITION] == WITH_BOOT && s[q + EDITION] == WITH_BOOT {
         return word_at(s, p + BOOT) != word_at(s, q + BOOT);

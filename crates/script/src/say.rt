@@ -1,4 +1,5 @@
-// The pieces of a line, into a writer. A line is flushed where it ends, so each is one write where the writer has a buffer.
+// The pieces of a line, into a writer. A line is flushed where it ends, so each is one write where the writer has a buffer. The
+// only error is the writer's.
 use refusal::Outcome;
 use std::io;
 use std::io::Write;
