@@ -27,7 +27,7 @@ def kit():
 
 @cache
 def launcher():
-    """What comes before a program's name: programs are for x86-64, and on another processor the toolchain has an emulator."""
+    """What comes before a program's name: programs are for x86-64, and on another processor the older toolchain had an emulator."""
     if platform.machine() == "x86_64":
         return []
     tools = kit() / "on" / platform.machine() / "toolchain"

@@ -46,12 +46,12 @@ pub record TraceRows (a : Sizes) (Lent Stored : Type 0) (k : ℕ) : Type 0 where
 pub trace_rows : (a : Sizes) {Lent Stored : Type 0} {s t : Bool} → Decides Lent s → Decides Stored t → {rest : ℕ → Type 0} {k : ℕ} → Above 5 rest
     → TraceNumber a Lent Stored rest k → TraceRows a Lent Stored k
 trace_rows a {Stored = Stored} lent stored {rest} above h =
-    let above-4 : Above 4 (First 5 (Stored → ⊥) rest) = above_first 4 5 (omega arith) above in
-    let above-3 = above_first 3 4 (omega arith) above-4 in
+    let above_4 : Above 4 (First 5 (Stored → ⊥) rest) = above_first 4 5 (omega arith) above in
+    let above_3 = above_first 3 4 (omega arith) above_4 in
     record {
-      setup = setup_rows a.levels a.capacity a.tolerances (above_first 2 3 (omega arith) above-3) h;
-      row_3 = reached_row 3 (omega arith) above-3 (past_2 a.levels a.capacity a.tolerances h);
-      row_4 = reached_row 4 (omega arith) above-4 (past_3 a lent stored h);
+      setup = setup_rows a.levels a.capacity a.tolerances (above_first 2 3 (omega arith) above_3) h;
+      row_3 = reached_row 3 (omega arith) above_3 (past_2 a.levels a.capacity a.tolerances h);
+      row_4 = reached_row 4 (omega arith) above_4 (past_3 a lent stored h);
       row_5 = reached_row 5 (omega arith) above (past_4 a lent stored h);
     }
 
@@ -79,12 +79,12 @@ pub record PutRows (a : Sizes) (xs : Samples) (t : List ℕ) (v : ℕ) (x : Samp
 pub put_rows : (a : Sizes) (xs : Samples) (t : List ℕ) (v : ℕ) (x : Sample) {k : ℕ} → PutNumber a xs t v x k → PutRows a xs t v x k
 put_rows a xs t v x h =
     let eight = reached_row 8 (omega arith) (above_none 8) (reached_next 7 (omega arith) (sample_past a xs t x h)) in
-    let above-7 : Above 7 (First 8 (a.held < v) Good) = above_first 7 8 (omega arith) (above_none 8) in
-    let above-6 = above_first 6 7 (omega arith) above-7 in
+    let above_7 : Above 7 (First 8 (a.held < v) Good) = above_first 7 8 (omega arith) (above_none 8) in
+    let above_6 = above_first 6 7 (omega arith) above_7 in
     record {
-      trace = trace_rows a (lent_table a xs t) (stored_decided a xs t) (above_first 5 6 (omega arith) above-6) h;
-      row_6 = reached_row 6 (omega arith) above-6 (table_past a xs t h);
-      row_7 = reached_row 7 (omega arith) above-7 (sample_past a xs t x h);
+      trace = trace_rows a (lent_table a xs t) (stored_decided a xs t) (above_first 5 6 (omega arith) above_6) h;
+      row_6 = reached_row 6 (omega arith) above_6 (table_past a xs t h);
+      row_7 = reached_row 7 (omega arith) above_7 (sample_past a xs t x h);
       row_8 = (λ e. let p = eight.0 e in (p.0.0, p.1), λ q. eight.1 ((q.0, λ e. omega (arith, q.1)), q.1));
       row_0 = reached_all (put_past a xs t v x h);
     }

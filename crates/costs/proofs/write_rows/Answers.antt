@@ -24,14 +24,14 @@ rests-sums-requires c =
 pub write_row-count-requires : goal.write_row-count-requires
 write_row-count-requires c =
     let room_next : (c.loop-k.k + 1) * (c.args.cap * c.args.cap) ≤ length c.loop-k.table = rw c.loop-k.invariant.0.same (room_below _ _ c.args.m _ (omega arith) c.requires.cap_in_bounds) in
-    let sums-small : (i : ℕ) → i ≤ c.args.j → get_or c.rests-sums.result i 0 ≤ 65534 = λ i h. let a = c.args in
+    let sums_small : (i : ℕ) → i ≤ c.args.j → get_or c.rests-sums.result i 0 ≤ 65534 = λ i h. let a = c.args in
     let p = c.requires in
     let e : c.loop-k.k + 1 - 1 ≡ c.loop-k.k = omega arith in
     rw (c.rests-sums.ensures i h, e) (rows_small _ _ _ _ (omega arith) (omega arith) _ _ a.m c.loop-k.k (omega arith) p.settled p.by_index c.loop-k.invariant.0 (omega arith) (omega arith) i h) in
     record {
       le_k = omega arith;
       cap_in_bounds = room_next;
-      by_index = λ i h. sums-small i (omega arith);
+      by_index = λ i h. sums_small i (omega arith);
     }
 
 pub overflow_add-count : goal.overflow_add-count

@@ -13,9 +13,9 @@ use Rattle.geometry.proofs.Ways.{back, ways_back, products_fit, dot_more, dot_si
 use Rattle.geometry.proofs.distance.Goals as goal
 
 -- what `distance_from` gives of a case is the distance, where that is the case
-of-case : {dx dy px py : ℤ} → Way dx dy → Way px py → (at : Nearest) → nearest dx dy px py ≡ at
+of_case : {dx dy px py : ℤ} → Way dx dy → Way px py → (at : Nearest) → nearest dx dy px py ≡ at
     → (r : Fraction) → r ≡ distance_from at (back dx) (back dy) (back px) (back py) → r ≡ distance dx dy px py
-of-case h k at n r e =
+of_case h k at n r e =
     let b = ways_back h k in
     rw n (rw (b.0, b.1, b.2, b.3) at e)
 
@@ -41,7 +41,7 @@ overflow_add-dot c =
 pub returns-then-dot-le0 : goal.returns-then-dot-le0
 returns-then-dot-le0 c =
     let dotted : let a = c.args in back (back (back a.px *ℤ back a.dx) +ℤ back (back a.py *ℤ back a.dy)) ≡ dot a.dx a.dy a.px a.py = dot_back c.requires.0 c.requires.1 in
-    of-case c.requires.0 c.requires.1 Beginning (at_beginning c.args.dx c.args.dy c.args.px c.args.py (rw (dotted) at c.if-dot-le0.true)) _ c.distance_from.ensures
+    of_case c.requires.0 c.requires.1 Beginning (at_beginning c.args.dx c.args.dy c.args.px c.args.py (rw (dotted) at c.if-dot-le0.true)) _ c.distance_from.ensures
 
 pub overflow_cast-dot : goal.overflow_cast-dot
 overflow_cast-dot c =
@@ -54,10 +54,10 @@ pub returns-then-length-dot : goal.returns-then-length-dot
 returns-then-length-dot c =
     let dotted : let a = c.args in back (back (back a.px *ℤ back a.dx) +ℤ back (back a.py *ℤ back a.dy)) ≡ dot a.dx a.dy a.px a.py = dot_back c.requires.0 c.requires.1 in
     let d = dotted in
-    of-case c.requires.0 c.requires.1 End (at_end c.args.dx c.args.dy c.args.px c.args.py (rw d at c.if-dot-le0.false) (omega (arith, c.requires.2, rw d at c.if-length-dot.true))) _ c.distance_from-then-length-dot.ensures
+    of_case c.requires.0 c.requires.1 End (at_end c.args.dx c.args.dy c.args.px c.args.py (rw d at c.if-dot-le0.false) (omega (arith, c.requires.2, rw d at c.if-length-dot.true))) _ c.distance_from-then-length-dot.ensures
 
 pub returns : goal.returns
 returns c =
     let dotted : let a = c.args in back (back (back a.px *ℤ back a.dx) +ℤ back (back a.py *ℤ back a.dy)) ≡ dot a.dx a.dy a.px a.py = dot_back c.requires.0 c.requires.1 in
     let d = dotted in
-    of-case c.requires.0 c.requires.1 Between (at_between c.args.dx c.args.dy c.args.px c.args.py (rw d at c.if-dot-le0.false) (omega (arith, c.requires.2, rw d at c.if-length-dot.false))) _ c.distance_from-2.ensures
+    of_case c.requires.0 c.requires.1 Between (at_between c.args.dx c.args.dy c.args.px c.args.py (rw d at c.if-dot-le0.false) (omega (arith, c.requires.2, rw d at c.if-length-dot.false))) _ c.distance_from-2.ensures

@@ -14,11 +14,11 @@ returns-then-s-p-gt-RANK_MOST c = let a = c.args in simp (lt-leb (rank a.s.now a
 pub returns-then-not-edition_ok : goal.returns-then-not-edition_ok
 unfolding fields_ok
 returns-then-not-edition_ok c =
-    let rank-ok : let a = c.args in leb (rank a.s.now a.p) 16 ≡ true = let a = c.args in le-leb (rank a.s.now a.p) 16 (omega arith) in
-    simp (rank-ok, sym c.edition_ok.ensures ∙ not-true _ c.if-not-edition_ok.true-raw)
+    let rank_ok : let a = c.args in leb (rank a.s.now a.p) 16 ≡ true = let a = c.args in le-leb (rank a.s.now a.p) 16 (omega arith) in
+    simp (rank_ok, sym c.edition_ok.ensures ∙ not-true _ c.if-not-edition_ok.true-raw)
 
 pub returns : goal.returns
 unfolding fields_ok
 returns c =
-    let rank-ok : let a = c.args in leb (rank a.s.now a.p) 16 ≡ true = let a = c.args in le-leb (rank a.s.now a.p) 16 (omega arith) in
-    c.spare_ok.ensures ∙ simp (rank-ok, sym c.edition_ok.ensures ∙ not-false _ c.if-not-edition_ok.false-raw)
+    let rank_ok : let a = c.args in leb (rank a.s.now a.p) 16 ≡ true = let a = c.args in le-leb (rank a.s.now a.p) 16 (omega arith) in
+    c.spare_ok.ensures ∙ simp (rank_ok, sym c.edition_ok.ensures ∙ not-false _ c.if-not-edition_ok.false-raw)

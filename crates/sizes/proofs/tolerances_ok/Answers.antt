@@ -11,8 +11,8 @@ use Rattle.refusal.proofs.Laws.{and_yes, and_no_left, and_no_right, all_no, pass
 use Rattle.sizes.specs.Rows.{before, tolerance_ok, tolerances_ok}
 use Rattle.sizes.proofs.tolerances_ok.Goals as goal
 
-before-next : (tols : List ℕ) (l : ℕ) → get_or tols l 0 ≡ before tols (l + 1)
-before-next tols l = rw add-one
+before_next : (tols : List ℕ) (l : ℕ) → get_or tols l 0 ≡ before tols (l + 1)
+before_next tols l = rw add-one
 
 pub loop-l-init : goal.loop-l-init
 loop-l-init c = (passed_none, refl)
@@ -37,7 +37,7 @@ loop-l-preserved c =
     let t = c.args.tolerances in
     let l = c.loop-l.l in (
       passed_more c.loop-l.invariant.0 (omega arith) (and_yes (lt-ltb (before t l) (get_or t l 0) (omega (arith, c.loop-l.invariant.1))) (le-leb (get_or t l 0) 32768 (omega arith))),
-      ap (λ (x : ℕ). x + 1) (before-next t l),
+      ap (λ (x : ℕ). x + 1) (before_next t l),
     )
 
 pub returns : goal.returns

@@ -8,8 +8,8 @@ use Rattle.table.proofs.Check.{row_first, row_next}
 use Rattle.table.proofs.row_ok.Goals as goal
 
 -- the most that a cost may be
-below-16 : (k d : ℕ) → k ≤ 16 → d ≤ 256 → (k - 1) * d ≤ 3840
-below-16 k d h l = mul-le-mul {n₂ = 15} {m₂ = 256} (omega arith) l
+below_16 : (k d : ℕ) → k ≤ 16 → d ≤ 256 → (k - 1) * d ≤ 3840
+below_16 k d h l = mul-le-mul {n₂ = 15} {m₂ = 256} (omega arith) l
 
 pub loop-d-init : goal.loop-d-init
 loop-d-init c =
@@ -17,7 +17,7 @@ loop-d-init c =
     (omega arith, omega arith, omega arith, row_first a.table.now a.base a.k _ c.neighbours_ok-ok.ensures)
 
 pub overflow_add-most : goal.overflow_add-most
-overflow_add-most c = omega (arith, below-16 c.args.k (c.loop-d.d + 1) c.requires.1 (omega arith))
+overflow_add-most c = omega (arith, below_16 c.args.k (c.loop-d.d + 1) c.requires.1 (omega arith))
 
 pub loop-d-preserved : goal.loop-d-preserved
 loop-d-preserved c =
