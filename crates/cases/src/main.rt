@@ -1,56 +1,80 @@
 // cases: the requirements' hand-checked cases, run through the public calls and printed one to a line.
 #![tactic(auto)]
 
-ghost use Rattle.std.specs.Prelude.{◌≤◌};
+ghost use Rattle.std.specs.Prelude.{◌≤◌, length};
 
-use refusal::Outcome;
-use sample::Sample;
+use geometry::Verdict;
+use refusal::{Outcome, Refusal};
+use sample::{Lent, Sample};
 use script::page::Page;
-use script::say;
-use std::io;
 use std::io::Write;
-use trace::{Asked, Levels, Trace};
+use std::{fmt, io};
+use trace::{Levels, Trace};
 
-// What the calls of a case gave: whether the stretch from 0 to 2 is permitted at level 1, the levels,
-// and the ranks and the table then.
+// The capacity of a case's trace.
+const CAPACITY: usize = 5;
+
+// The requirements' day of five samples, and its tolerances.
+const DAY: Lent<'static> = Lent {
+    across: &[0, 10, 20, 30, 40],
+    up: &[0, 1, 0, 3, 0],
+    marks: &[0; CAPACITY],
+};
+
+const TOLERANCES: [u32; 3] = [1, 4, 16];
+
+// What the calls of a case gave: whether the stretch from 0 to 2 is permitted at level 1, the levels, and the ranks and the
+// table then.
 #[derive(Clone, Copy)]
 struct Found {
-    asked: Asked,
+    asked: Result<Verdict, Refusal>,
     levels: Levels,
-    ranks: [u8; 5],
+    ranks: [u8; CAPACITY],
     table: [u16; 400],
 }
 
-// Upload n samples to an empty trace of m levels, ask and read.
-fn find(
-    m: usize,
-    tolerances: [u32; 16],
-    across: [i16; 5],
-    up: [i16; 5],
-    restarts: [u8; 5],
-    n: usize,
-) -> Found
-    requires { n ≤ 5 }
+// An outcome as it is printed: taken, or refused with the number.
+#[derive(Clone, Copy)]
+struct Told(Outcome);
+
+impl fmt::Display for Told {
+    fn fmt<W: fmt::Write>(&self, f: &mut fmt::Formatter<W>) -> fmt::Result {
+        match self.0 {
+            Ok(()) => write!(f, "taken"),
+            Err(why) => write!(f, "refused {}", why.number()),
+        }
+    }
+}
+
+// The tolerances of all levels, with those of the first.
+fn sixteen(first: &[u32]) -> [u32; 16]
+    requires { length first.now ≤ 16 }
 {
-    let mut xs = [0i16; 5];
-    let mut ys = [0i16; 5];
-    let mut marks = [0u8; 5];
-    let mut table = [0u16; 400];
-    let mut ranks = [0u8; 5];
-    let started = Trace::start(m, 5, tolerances);
+    let mut tolerances = [0; 16];
+    tolerances[..first.len()].copy_from_slice(first);
+    tolerances
+}
+
+// Upload samples to an empty trace of a level for each tolerance, ask and read.
+fn find(tolerances: &[u32], samples: Lent<'_>) -> Found
+    requires { length tolerances.now ≤ 16 }
+{
+    let mut xs = [0; CAPACITY];
+    let mut ys = [0; CAPACITY];
+    let mut marks = [0; CAPACITY];
+    let mut table = [0; 400];
+    let mut ranks = [0; CAPACITY];
+    let started = Trace::start(tolerances.len(), CAPACITY, sixteen(tolerances));
     let empty = started.trace;
-    let uploaded = empty.upload(
-        &mut xs,
-        &mut ys,
-        &mut marks,
-        &mut table,
-        &across[..n],
-        &up[..n],
-        &restarts[..n],
-    );
+    let uploaded = empty.upload(&mut xs, &mut ys, &mut marks, &mut table, samples);
     let trace = uploaded.trace;
-    let asked = trace.ask(&xs, &ys, &marks, 1, 0, 2);
-    let levels = trace.read(&xs, &ys, &marks, &table, &mut ranks);
+    let held = Lent {
+        across: &xs,
+        up: &ys,
+        marks: &marks,
+    };
+    let asked = trace.ask(held, 1, 0, 2);
+    let levels = trace.read(held, &table, &mut ranks);
     Found {
         asked,
         levels,
@@ -59,162 +83,83 @@ fn find(
     }
 }
 
-// taken, or refused with the number.
-fn say_outcome<W: Write>(out: &mut W, o: Outcome) -> io::Result<()> {
-    let number = refusal::number(o);
-    if number == 0 {
-        say::bytes(out, b": taken")?;
-        return say::end(out);
-    }
-    say::bytes(out, b": refused")?;
-    say::number(out, number as u64)?;
-    say::end(out)
-}
-
-fn say_sample<W: Write>(out: &mut W, before: &[u8], x: i16, y: i16) -> io::Result<()> {
-    say::bytes(out, before)?;
-    say::bytes(out, b"(")?;
-    say::signed(out, x)?;
-    say::bytes(out, b", ")?;
-    say::signed(out, y)?;
-    say::bytes(out, b")")
-}
-
-fn say_asked<W: Write>(out: &mut W, answer: Asked) -> io::Result<()> {
-    match answer {
-        Asked::Yes => {
-            say::bytes(out, b": yes")?;
-            say::end(out)
-        }
-        Asked::No(spoiler) => {
-            say::bytes(out, b": no, sample")?;
-            say::number(out, spoiler as u64)?;
-            say::end(out)
-        }
-        Asked::Refused(why) => say_outcome(out, Outcome::Refused(why)),
+// A stretch of two samples past a third, at a tolerance: permitted, or not.
+fn past<W: Write>(
+    out: &mut W,
+    a: (i16, i16),
+    b: (i16, i16),
+    p: (i16, i16),
+    e: u32,
+) -> io::Result<()> {
+    let found = find(
+        &[e],
+        Lent {
+            across: &[a.0, p.0, b.0],
+            up: &[a.1, p.1, b.1],
+            marks: &[0; 3],
+        },
+    );
+    write!(out, "{a:?} to {b:?} past {p:?} at {e}: ")?;
+    match found.asked {
+        Ok(Verdict::Yes) => writeln!(out, "yes"),
+        Ok(Verdict::No(spoiler)) => writeln!(out, "no, sample {spoiler}"),
+        Err(why) => writeln!(out, "{}", Told(Err(why))),
     }
 }
 
-// The first n ranks.
-fn say_ranks<W: Write>(out: &mut W, ranks: [u8; 5], n: usize) -> io::Result<()> {
-    let mut i = 0;
-    while i < 5 && i < n {
-        say::number(out, ranks[i] as u64)?;
-        i += 1;
+// The levels of samples: their ranks and the total of segments.
+fn levels<W: Write>(out: &mut W, tolerances: &[u32], samples: Lent<'_>) -> io::Result<()>
+    requires { length tolerances.now ≤ 16 }
+{
+    let found = find(tolerances, samples);
+    let Levels { outcome, total, .. } = found.levels;
+    if outcome.is_err() {
+        return writeln!(out, "{}", Told(outcome));
+    }
+    write!(out, "ranks")?;
+    for rank in found.ranks.iter().take(samples.across.len()) {
+        write!(out, " {rank}")?;
+    }
+    writeln!(out, ", total {total}")
+}
+
+// The costs of the stretch of all five samples.
+fn costs<W: Write>(out: &mut W) -> io::Result<()> {
+    let found = find(&TOLERANCES, DAY);
+    let table = found.table;
+    for level in [2, 3, 1] {
+        let cost = table[(level - 1) * CAPACITY * CAPACITY + CAPACITY - 1];
+        writeln!(out, "five samples, cost ({level}, 0, 4): {cost}")?;
     }
     Ok(())
 }
 
-// One tolerance, or two.
-fn tolerances(first: u32, second: u32) -> [u32; 16] {
-    [first, second, 0, 0, 0, 0, 0, 0, 0, 0, 0, 0, 0, 0, 0, 0]
-}
-
-// A stretch of two samples past a third, at a tolerance: permitted, or not.
-fn past<W: Write>(
-    out: &mut W,
-    ax: i16,
-    ay: i16,
-    bx: i16,
-    by: i16,
-    x: i16,
-    y: i16,
-    e: u32,
-) -> io::Result<()> {
-    let across = [ax, x, bx, 0, 0];
-    let up = [ay, y, by, 0, 0];
-    let found = find(1, tolerances(e, 0), across, up, [0; 5], 3);
-    let asked = found.asked;
-    say_sample(out, b"", ax, ay)?;
-    say_sample(out, b" to ", bx, by)?;
-    say_sample(out, b" past ", x, y)?;
-    say::bytes(out, b" at")?;
-    say::number(out, e as u64)?;
-    say_asked(out, asked)
-}
-
-// The levels of n samples: their ranks and the total of segments.
-fn levels<W: Write>(
-    out: &mut W,
-    m: usize,
-    tolerances: [u32; 16],
-    across: [i16; 5],
-    up: [i16; 5],
-    marks: [u8; 5],
-    n: usize,
-) -> io::Result<()>
-    requires { n ≤ 5 }
+// A start of a level for each tolerance.
+fn starting<W: Write>(out: &mut W, capacity: usize, tolerances: &[u32]) -> io::Result<()>
+    requires { length tolerances.now ≤ 16 }
 {
-    let found = find(m, tolerances, across, up, marks, n);
-    let levels = found.levels;
-    let ranks = found.ranks;
-    let o = levels.outcome;
-    let Outcome::Done = o else {
-        return say_outcome(out, o);
-    };
-    say::bytes(out, b": ranks")?;
-    say_ranks(out, ranks, n)?;
-    say::bytes(out, b", total")?;
-    say::number(out, levels.total as u64)?;
-    say::end(out)
-}
-
-// The requirements' day of five samples, and its tolerances.
-const ACROSS: [i16; 5] = [0, 10, 20, 30, 40];
-
-const UP: [i16; 5] = [0, 1, 0, 3, 0];
-
-fn day_tolerances() -> [u32; 16] {
-    [1, 4, 16, 0, 0, 0, 0, 0, 0, 0, 0, 0, 0, 0, 0, 0]
-}
-
-// The cost of the stretch of all five samples at a level.
-fn say_cost<W: Write>(out: &mut W, level: i16, cost: u16) -> io::Result<()> {
-    say::bytes(out, b"five samples, cost (")?;
-    say::signed(out, level)?;
-    say::bytes(out, b", 0, 4):")?;
-    say::number(out, cost as u64)?;
-    say::end(out)
-}
-
-fn costs<W: Write>(out: &mut W) -> io::Result<()> {
-    let found = find(3, day_tolerances(), ACROSS, UP, [0; 5], 5);
-    let table = found.table;
-    say_cost(out, 2, table[29])?;
-    say_cost(out, 3, table[54])?;
-    say_cost(out, 1, table[4])
-}
-
-// A start of m levels, N places and two tolerances.
-fn starting<W: Write>(
-    out: &mut W,
-    m: usize,
-    capacity: usize,
-    first: u32,
-    second: u32,
-) -> io::Result<()> {
-    let started = Trace::start(m, capacity, tolerances(first, second));
-    let o = started.outcome;
-    say_outcome(out, o)
+    let started = Trace::start(tolerances.len(), capacity, sixteen(tolerances));
+    writeln!(out, "{}", Told(started.outcome))
 }
 
 // A first sample.
-fn adding<W: Write>(out: &mut W, x: i16, y: i16) -> io::Result<()> {
-    let mut xs = [0i16; 2];
-    let mut ys = [0i16; 2];
-    let mut marks = [0u8; 2];
-    let mut table = [0u16; 4];
-    let started = Trace::start(1, 2, tolerances(1, 0));
+fn adding<W: Write>(out: &mut W, across: i16, up: i16) -> io::Result<()> {
+    let started = Trace::start(1, 2, sixteen(&[1]));
     let empty = started.trace;
     let sample = Sample {
-        across: x,
-        up: y,
+        across,
+        up,
         mark: 0,
     };
-    let added = empty.put(&mut xs, &mut ys, &mut marks, &mut table, 0, sample);
-    let o = added.outcome;
-    say_sample(out, b"sample ", x, y)?;
-    say_outcome(out, o)
+    let added = empty.put(
+        &mut [0; 2],
+        &mut [0; 2],
+        &mut [0; 2],
+        &mut [0; 4],
+        0,
+        sample,
+    );
+    writeln!(out, "sample ({across}, {up}): {}", Told(added.outcome))
 }
 
 // Counters 500, 900, 120, 200.
@@ -224,88 +169,114 @@ fn pauses<W: Write>(out: &mut W) -> io::Result<()> {
         \0\0\0\0\x78\0\0\0\0\0\0\0\0\0\0\0\
         \0\0\0\0\xC8\0\0\0\0\0\0\0\0\0\0\0";
     let line = pause::pause_line(file);
-    say::bytes(out, b"counters 500, 900, 120, 200: pause")?;
-    say::number(out, line.sum)?;
-    say::end(out)
+    writeln!(out, "counters 500, 900, 120, 200: pause {}", line.sum)
 }
 
 // A record of across 10, up 1, pause 900.
 fn decoding<W: Write>(out: &mut W) -> io::Result<()> {
-    let bytes = [10, 0, 1, 0, 132, 3, 0, 0, 0, 0, 0, 0, 0, 0, 0, 0];
-    let d = record::decode(&bytes);
-    say::bytes(out, b"record 0A 00 01 00 84 03 00 00: across ")?;
-    say::signed(out, d.across)?;
-    say::bytes(out, b", up ")?;
-    say::signed(out, d.up)?;
-    say::bytes(out, b", pause")?;
-    say::number(out, d.pause as u64)?;
-    say::end(out)
+    let d = record::decode(b"\x0A\0\x01\0\x84\x03\0\0\0\0\0\0\0\0\0\0");
+    write!(out, "record 0A 00 01 00 84 03 00 00: ")?;
+    writeln!(out, "across {}, up {}, pause {}", d.across, d.up, d.pause)
 }
 
 fn stretches<W: Write>(out: &mut W) -> io::Result<()> {
-    past(out, 0, 0, 10, 0, 13, 4, 5)?;
-    past(out, 0, 0, 10, 0, 13, 4, 4)?;
-    past(out, 0, 0, 10, 0, -3, 4, 5)?;
-    past(out, 0, 0, 10, 0, -3, 4, 4)?;
-    past(out, 0, 0, 0, 0, 3, 4, 5)?;
-    past(out, 0, 0, 0, 0, 3, 4, 4)?;
-    past(out, -16384, -16384, 16384, 16384, 16384, -16384, 23171)?;
-    past(out, -16384, -16384, 16384, 16384, 16384, -16384, 23170)?;
-    past(out, 0, 0, 20, 2, 10, 2, 1)?;
-    past(out, 10, 2, 30, 0, 20, 2, 1)
+    past(out, (0, 0), (10, 0), (13, 4), 5)?;
+    past(out, (0, 0), (10, 0), (13, 4), 4)?;
+    past(out, (0, 0), (10, 0), (-3, 4), 5)?;
+    past(out, (0, 0), (10, 0), (-3, 4), 4)?;
+    past(out, (0, 0), (0, 0), (3, 4), 5)?;
+    past(out, (0, 0), (0, 0), (3, 4), 4)?;
+    past(
+        out,
+        (-16384, -16384),
+        (16384, 16384),
+        (16384, -16384),
+        23171,
+    )?;
+    past(
+        out,
+        (-16384, -16384),
+        (16384, 16384),
+        (16384, -16384),
+        23170,
+    )?;
+    past(out, (0, 0), (20, 2), (10, 2), 1)?;
+    past(out, (10, 2), (30, 0), (20, 2), 1)
 }
 
 fn families<W: Write>(out: &mut W) -> io::Result<()> {
-    say::bytes(out, b"four samples, one level")?;
-    levels(out, 1, tolerances(1, 0), ACROSS, [0, 2, 2, 0, 0], [0; 5], 4)?;
-    say::bytes(out, b"four samples, two levels")?;
+    write!(out, "four samples, one level: ")?;
     levels(
         out,
-        2,
-        tolerances(1, 10),
-        [0, 10, 20, 20, 0],
-        [0, 1, 0, 20, 0],
-        [0; 5],
-        4,
+        &[1],
+        Lent {
+            across: &[0, 10, 20, 30],
+            up: &[0, 2, 2, 0],
+            marks: &[0; 4],
+        },
     )?;
-    say::bytes(out, b"five samples, three levels")?;
-    levels(out, 3, day_tolerances(), ACROSS, UP, [0; 5], 5)?;
-    say::bytes(out, b"a restart before the third, three levels")?;
-    levels(out, 3, day_tolerances(), ACROSS, UP, [0, 0, 1, 0, 0], 5)
+    write!(out, "four samples, two levels: ")?;
+    levels(
+        out,
+        &[1, 10],
+        Lent {
+            across: &[0, 10, 20, 20],
+            up: &[0, 1, 0, 20],
+            marks: &[0; 4],
+        },
+    )?;
+    write!(out, "five samples, three levels: ")?;
+    levels(out, &TOLERANCES, DAY)?;
+    write!(out, "a restart before the third, three levels: ")?;
+    let restarted = Lent {
+        marks: &[0, 0, 1, 0, 0],
+        ..DAY
+    };
+    levels(out, &TOLERANCES, restarted)
 }
 
-// The first n samples of the day at m levels, with tolerances 1, 2, .., 16.
-fn few<W: Write>(out: &mut W, m: usize, n: usize) -> io::Result<()>
-    requires { n ≤ 5 }
+// The first n samples of the day, with tolerances.
+fn few<W: Write>(out: &mut W, tolerances: &[u32], n: usize) -> io::Result<()>
+    requires tolerances { length tolerances.now ≤ 16 }
+    requires samples { n ≤ 5 }
 {
-    let rising = [1, 2, 3, 4, 5, 6, 7, 8, 9, 10, 11, 12, 13, 14, 15, 16];
-    levels(out, m, rising, ACROSS, UP, [0; 5], n)
+    levels(
+        out,
+        tolerances,
+        Lent {
+            across: &DAY.across[..n],
+            up: &DAY.up[..n],
+            marks: &DAY.marks[..n],
+        },
+    )
 }
 
 fn short_families<W: Write>(out: &mut W) -> io::Result<()> {
-    say::bytes(out, b"two samples, one level")?;
-    few(out, 1, 2)?;
-    say::bytes(out, b"two samples, three levels")?;
-    few(out, 3, 2)?;
-    say::bytes(out, b"two samples, sixteen levels")?;
-    few(out, 16, 2)?;
-    say::bytes(out, b"one sample, one level")?;
-    few(out, 1, 1)
+    write!(out, "two samples, one level: ")?;
+    few(out, &[1], 2)?;
+    write!(out, "two samples, three levels: ")?;
+    few(out, &[1, 2, 3], 2)?;
+    write!(out, "two samples, sixteen levels: ")?;
+    few(
+        out,
+        &[1, 2, 3, 4, 5, 6, 7, 8, 9, 10, 11, 12, 13, 14, 15, 16],
+        2,
+    )?;
+    write!(out, "one sample, one level: ")?;
+    few(out, &[1], 1)
 }
 
 fn ranges<W: Write>(out: &mut W) -> io::Result<()> {
-    say::bytes(out, b"tolerances 4, 4")?;
-    starting(out, 2, 2, 4, 4)?;
-    say::bytes(out, b"tolerance 0")?;
-    starting(out, 1, 2, 0, 0)?;
-    say::bytes(out, b"tolerance 32768")?;
-    starting(out, 1, 2, 32768, 0)?;
-    say::bytes(out, b"tolerance 32769")?;
-    starting(out, 1, 2, 32769, 0)?;
-    say::bytes(out, b"capacity 256")?;
-    starting(out, 1, 256, 1, 0)?;
-    say::bytes(out, b"capacity 257")?;
-    starting(out, 1, 257, 1, 0)?;
+    write!(out, "tolerances 4, 4: ")?;
+    starting(out, 2, &[4, 4])?;
+    for tolerance in [0, 32768, 32769] {
+        write!(out, "tolerance {tolerance}: ")?;
+        starting(out, 2, &[tolerance])?;
+    }
+    for capacity in [256, 257] {
+        write!(out, "capacity {capacity}: ")?;
+        starting(out, capacity, &[1])?;
+    }
     adding(out, 16384, 0)?;
     adding(out, 16385, 0)
 }
@@ -318,5 +289,6 @@ fn main(rt: HostRuntime) -> io::Result<()> {
     costs(&mut page)?;
     pauses(&mut page)?;
     ranges(&mut page)?;
-    decoding(&mut page)
+    decoding(&mut page)?;
+    page.flush()
 }

@@ -4,7 +4,7 @@
 ghost use Rattle.sample.specs.Samples.{samples};
 ghost use Rattle.change.specs.Change.{Ready, Changes};
 
-use sample::Sample;
+use sample::{Lent, Sample};
 use sizes::Sizes;
 
 // Make sample v this one, of the samples then held, and rewrite the cells of the stretches with it; how many they are.
@@ -20,10 +20,13 @@ pub fn change(
     requires { Ready s (samples xs.old ys.old marks.old) table.old v sample }
     ensures { Changes s (samples xs.old ys.old marks.old) table.old v sample result (samples xs.new ys.new marks.new) table.new }
 {
-    let x = sample.across;
-    let y = sample.up;
-    xs[v] = x;
-    ys[v] = y;
+    xs[v] = sample.across;
+    ys[v] = sample.up;
     marks[v] = sample.mark;
-    costs::rewrite(table, xs, ys, marks, s, v)
+    let samples = Lent {
+        across: xs,
+        up: ys,
+        marks,
+    };
+    costs::rewrite(table, samples, s, v)
 }

@@ -1,14 +1,15 @@
--- What a row of tests that ends in Done says of sizes: of the setup, of what is lent and of the samples held. Assumes nothing.
+-- What a row of tests that ends in Ok says of sizes: of the setup, of what is lent and of the samples held; and the test of a table by quotients. Assumes nothing.
 use mathlib.Core.Path.{◌≡◌}
 use mathlib.Core.Bool.{Bool, true}
 use mathlib.Core.List.{List}
-use Prim.Native.Nat.{ℕ, ◌*◌, ◌≤◌}
-use native.Mathlib.Nat.{le_trans}
+use Prim.Native.Nat.{ℕ, ◌*◌, ◌/◌, ◌≤◌, ◌<◌}
+use native.Mathlib.Nat.{le_trans, mul_assoc, le-div_iff_mul-le}
 use lib.Dec.{leb}
 use lib.ListN.{length}
 use borrow.Author.Tests.{leb-true}
-use Rattle.refusal.specs.declared.Outcome.TheVariants.{Done}
+use Rattle.std.specs.Prelude.{Ok}
 use Rattle.refusal.proofs.Laws.{unless_done, then_done}
+use Rattle.refusal.proofs.Plain.{carry, decides_unique, by_order}
 use Rattle.sample.specs.Samples.{Samples}
 use Rattle.sizes.specs.declared.Sizes.{Sizes}
 use Rattle.sizes.specs.Setup.{Sized}
@@ -24,7 +25,7 @@ pub record Lent (a : Sizes) (lent : Bool) : Type 0 where
   pub long : lent ≡ true
   pub held : a.held ≤ a.capacity
 
-pub lent_done : (a : Sizes) (lent : Bool) → lent_outcome a lent ≡ Done → Lent a lent
+pub lent_done : (a : Sizes) (lent : Bool) → lent_outcome a lent ≡ Ok tt → Lent a lent
 unfolding lent_outcome
 lent_done a lent h =
     let s = then_done (setup_outcome a.levels a.capacity a.tolerances) _ h in
@@ -36,7 +37,7 @@ lent_done a lent h =
     }
 
 -- so each sample held has its places
-pub samples_held : (a : Sizes) (xs : Samples) → lent_outcome a (samples_lent a.capacity (lengths xs)) ≡ Done
+pub samples_held : (a : Sizes) (xs : Samples) → lent_outcome a (samples_lent a.capacity (lengths xs)) ≡ Ok tt
     → (a.held ≤ length xs.across) × (a.held ≤ length xs.up) × (a.held ≤ length xs.marks)
 samples_held a xs h =
     let l = lent_done a _ h in
@@ -49,3 +50,12 @@ pub table_held : (a : Sizes) (xs : Samples) (t : List ℕ) {lent : Bool} → Len
     × ((a.levels ≤ 16) × (a.capacity ≤ 256) × (a.levels * (a.capacity * a.capacity) ≤ length t) × (a.held ≤ a.capacity))
 table_held a xs t l p =
     ((le_trans l.held p.0.0, le_trans l.held p.0.1, le_trans l.held p.0.2), (l.sized.1, l.sized.3, p.1, l.held))
+
+-- a product is at most the cells exactly when a factor is at most the quotient
+pub quotient : (m N cells : ℕ) → 0 < N → leb m (cells / N / N) ≡ leb (m * (N * N)) cells
+quotient m N cells h =
+    decides_unique _ _ (by_order m (cells / N / N))
+    (carry
+    (λ p. (le-div_iff_mul-le h).1 ((le-div_iff_mul-le h).1 (rw (mul_assoc m N N) p)))
+    (λ p. rw (mul_assoc m N N) at ((le-div_iff_mul-le h).0 ((le-div_iff_mul-le h).0 p)))
+    (by_order (m * (N * N)) cells))

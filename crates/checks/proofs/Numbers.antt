@@ -11,7 +11,7 @@ use lib.ListN.{length}
 use borrow.Author.Tests.{leb-true, leb-false, ltb-true, ltb-false, eqb-true, eqb-false}
 use Rattle.refusal.specs.declared.Refusal.TheVariants.{Buffer, Held, Stored, Coordinate, Full, Missing, Few}
 use Rattle.refusal.specs.declared.Refusal.{Refusal}
-use Rattle.refusal.specs.declared.Outcome.TheVariants.{Done, Refused}
+use Rattle.std.specs.Prelude.{Ok, Err}
 use Rattle.refusal.specs.Number.{number, code}
 use Rattle.refusal.specs.Check.{unless, Decides, First}
 use Rattle.refusal.proofs.Laws.{then_done}
@@ -52,7 +52,7 @@ unfolding trace_outcome
 trace_row a xs t = stored_row a _ (lent_table a xs t) xs t
 
 -- past check 4 no more samples are held than there is room for
-pub held_within : (a : Sizes) (xs : Samples) (t : List ℕ) → trace_outcome a xs t ≡ Done → a.held ≤ a.capacity
+pub held_within : (a : Sizes) (xs : Samples) (t : List ℕ) → trace_outcome a xs t ≡ Ok tt → a.held ≤ a.capacity
 unfolding trace_outcome stored_outcome
 held_within a xs t e = (lent_done a _ (then_done _ _ e).0).held
 
@@ -93,7 +93,7 @@ put_number a xs t v x =
     row_number _ _ (then_row _ _ (trace_row a xs t) (λ e. sample_row a v x (held_within a xs t e)))
 
 -- where 1 to 5 refuse, so is the call
-pub put_stopped : (a : Sizes) (xs : Samples) (t : List ℕ) (v : ℕ) (x : Sample) {why : Refusal} → trace_outcome a xs t ≡ Refused why → PutNumber a xs t v x (number why)
+pub put_stopped : (a : Sizes) (xs : Samples) (t : List ℕ) (v : ℕ) (x : Sample) {why : Refusal} → trace_outcome a xs t ≡ Err why → PutNumber a xs t v x (number why)
 unfolding put_outcome
 put_stopped a xs t v x h = rw h at (put_number a xs t v x)
 

@@ -8,7 +8,7 @@ use native.Mathlib.Nat.{le_trans, lt_of_not-le}
 use native.Mathlib.Numerals.{lt_of_le_of_ne}
 use native.Mathlib.Omega.{arith}
 use lib.ListN.{length}
-use Rattle.refusal.specs.declared.Outcome.TheVariants.{Done}
+use Rattle.std.specs.Prelude.{Ok}
 use Rattle.refusal.specs.Number.{code}
 use Rattle.refusal.specs.Check.{Decides, First}
 use Rattle.refusal.proofs.Rows.{Reached, reached_none, reached_as, reached_next, reached_more, reached_unless, reached_all, code_one}
@@ -100,11 +100,11 @@ module _ (a : Sizes) (xs : Samples) where
 pub start_passed : (m N : ℕ) (tols : List ℕ) → StartNumber m N tols 0 → Sized m N × Tolerances m tols
 start_passed m N tols h = (past_2 m N tols {rest = Good} h).passed (inl refl)
 
--- the row of 1 to 5 ends in Done exactly when they have passed
-pub trace_passed : (a : Sizes) (xs : Samples) (t : List ℕ) → trace_outcome a xs t ≡ Done ↔ Passed a xs × PassedTable a t
+-- the row of 1 to 5 ends in Ok exactly when they have passed
+pub trace_passed : (a : Sizes) (xs : Samples) (t : List ℕ) → trace_outcome a xs t ≡ Ok tt ↔ Passed a xs × PassedTable a t
 trace_passed a xs t =
     let f = reached_all (table_past a xs t {rest = Good} (trace_number a xs t)) in
-    (λ e. f.0 (ap code e), λ p. code_one _ Done (f.1 p))
+    (λ e. f.0 (ap code e), λ p. code_one _ (Ok tt) (f.1 p))
 
 pub put_passed : (a : Sizes) (xs : Samples) (t : List ℕ) (v : ℕ) (x : Sample) → PutNumber a xs t v x 0
     → Passed a xs × PassedTable a t × Valid x × (v ≤ a.held) × (v < a.capacity)

@@ -1,9 +1,8 @@
 -- The rows of tests that the code is proved against, and what holds once they have passed.
 -- `proofs/Numbers.antt` shows that each row gives the number of `Numbers.antt`. Assumes nothing.
-use Rattle.std.specs.Prelude.{ℕ, ◌*◌, ◌≤◌, Bool, ◌&&◌, cond, List, leb, ltb, eqb, length}
+use Rattle.std.specs.Prelude.{ℕ, ◌*◌, ◌≤◌, Bool, ◌&&◌, cond, List, leb, ltb, eqb, length, Ok}
 use Rattle.refusal.specs.declared.Refusal.TheVariants.{Buffer, Held, Stored, Coordinate, Full, Missing, Few}
-use Rattle.refusal.specs.declared.Outcome.{Outcome}
-use Rattle.refusal.specs.declared.Outcome.TheVariants.{Done}
+use Rattle.refusal.specs.Number.{Outcome}
 use Rattle.refusal.specs.Check.{unless, and_then, from_to}
 use Rattle.sample.specs.declared.Sample.{Sample}
 use Rattle.sample.specs.Samples.{Samples}
@@ -66,7 +65,7 @@ unfoldable pub put_outcome : Sizes → Samples → List ℕ → ℕ → Sample �
 put_outcome a xs t v x = and_then (trace_outcome a xs t) (sample_outcome a v x)
 
 unfoldable pub upload_outcome : Sizes → Samples → List ℕ → Lengths → Outcome
-upload_outcome a xs t lists = and_then (unless (lists_ok lists) Buffer) (cond (eqb lists.across 0) Done (trace_outcome a xs t))
+upload_outcome a xs t lists = and_then (unless (lists_ok lists) Buffer) (cond (eqb lists.across 0) (Ok tt) (trace_outcome a xs t))
 
 unfoldable pub ask_outcome : Sizes → Samples → ℕ → ℕ → ℕ → Outcome
 ask_outcome a xs k i j = and_then (samples_outcome a xs) (unless (stretch_ok a k i j) Missing)

@@ -68,16 +68,16 @@ module _ (N : ℕ) (finest : List ℕ) (j top : ℕ) (hj : j < N) (ht : top ≤ 
       inside : Inside N (Row k j top)
       inside k' i j' s = (omega arith, omega arith, omega arith)
 
-  pub rows_more : (k : ℕ) (sums e f : List ℕ) → Rewritten N (from_finest finest) (Rows k j top) t e
-      → ((i : ℕ) → i ≤ j → get_or sums i 0 ≡ below (cell e N) (k + 1 - 1) i j)
-      → Wrote N (Row (k + 1) j top) (λ k' i j'. price k' (get_or finest i 0) (get_or sums i 0)) e f
-      → Rewritten N (from_finest finest) (Rows (k + 1) j top) t f
-  rows_more k sums e f w rest x =
-      rewritten_more N (from_finest finest) (Rows k j top) (Row (k + 1) j top) (Rows (k + 1) j top) t e f w (row_rewritten (k + 1) sums e f (omega arith) rest x)
+  pub rows_more : (k : ℕ) (sums e f : List ℕ) → 1 ≤ k → Rewritten N (from_finest finest) (Rows (k - 1) j top) t e
+      → ((i : ℕ) → i ≤ j → get_or sums i 0 ≡ below (cell e N) (k - 1) i j)
+      → Wrote N (Row k j top) (λ k' i' j'. price k' (get_or finest i' 0) (get_or sums i' 0)) e f
+      → Rewritten N (from_finest finest) (Rows (k + 1 - 1) j top) t f
+  rows_more k sums e f hk w rest x =
+      rewritten_more N (from_finest finest) (Rows (k - 1) j top) (Row k j top) (Rows (k + 1 - 1) j top) t e f w (row_rewritten k sums e f hk rest x)
       (λ k' i j' s. omega arith) (λ k' i j' s. omega arith) (λ k' i j' s. omega arith)
       (λ k' i j' s r. omega arith)
       (λ k' i j' l p q s g z r. omega arith)
-      (λ k' i j' s. ⊎_elim (λ q. inr (q, s.2, s.3)) (λ q. inl (s.0, omega arith, s.2, s.3)) (eq-or-lt_of_le {m = k + 1} s.1))
+      (λ k' i j' s. ⊎_elim (λ q. inr (q, s.2, s.3)) (λ q. inl (s.0, omega arith, s.2, s.3)) (eq-or-lt_of_le {m = k} (omega arith)))
       (λ k' i j' s. omega arith)
       (λ k' i j' s. omega arith)
 

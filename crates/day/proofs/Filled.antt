@@ -1,6 +1,6 @@
--- Adding the records of a file: what holds before the first, one record more, and the number of a day that is full. Assumes nothing.
+-- Adding the records of a file: one record more, and the number of a day that is full. Assumes nothing.
 use mathlib.Core.Path.{◌≡◌, refl, sym, ap, subst, ◌∙◌}
-use mathlib.Core.Logic.{inl, inr, ⊎_elim}
+use mathlib.Core.Logic.{inr, ⊎_elim}
 use mathlib.Core.Bool.{true≢false}
 use mathlib.Core.List.{List, []}
 use Prim.Native.Nat.{ℕ, ◌+◌, ◌≤◌, ◌<◌}
@@ -10,22 +10,23 @@ use lib.IntN.{pos}
 use lib.ListN.{length, get_or, set, length-set}
 use lib.Seq.{get_or-set_same, get_or-set_other}
 use Rattle.refusal.specs.declared.Refusal.{Refusal}
-use Rattle.refusal.specs.declared.Outcome.TheVariants.{Done, Refused}
+use Rattle.std.specs.Prelude.{Ok, Err}
 use Rattle.refusal.specs.Number.{code}
 use Rattle.refusal.specs.Check.{First, all_below}
-use Rattle.refusal.proofs.Rows.{code_one, first_passed, first_same, numbered}
+use Rattle.refusal.proofs.Rows.{first_passed, first_same, numbered}
+use Rattle.sample.specs.declared.Sample.{Sample}
 use Rattle.sample.specs.Samples.{Samples}
 use Rattle.sample.specs.Sweep.{Ranged}
 use Rattle.pause.specs.Pause.{pause_line_of}
+use Rattle.pause.specs.Restart.{sample_of}
 use Rattle.pause.proofs.Marks.{mark_small}
+use Rattle.pause.proofs.Samples.{sample_there}
 use Rattle.trace.specs.declared.Trace.{Trace}
-use Rattle.trace.specs.declared.Started.{Started}
 use Rattle.trace.specs.declared.Changed.{Changed}
 use Rattle.sizes.specs.Setup.{Sized, Tolerances}
 use Rattle.checks.specs.Numbers.{TraceNumber}
-use Rattle.trace.specs.Calls.{sizes, StartGives, PutGives, buffers}
+use Rattle.trace.specs.Calls.{sizes, PutGives, buffers}
 use Rattle.sizes.specs.Rows.{tolerances_ok, tolerance_ok}
-use Rattle.trace.proofs.Calls.{done_refused}
 use Rattle.sizes.proofs.Decided.{tolerances_decided}
 use Rattle.trace.proofs.Formulas.{put_adds}
 use Rattle.history.specs.Run.{State, Call}
@@ -34,7 +35,7 @@ use Rattle.history.specs.Run.Step.{puts}
 use Rattle.history.proofs.Sound.{Sound, state, step_sound}
 use Rattle.history.proofs.Follows.{Possible, step_number}
 use Rattle.day.specs.Day.{count, day_sample, tolerances}
-use Rattle.day.specs.Fill.{day_trace, Lent, Filled, AddsAll}
+use Rattle.day.specs.Fill.{day_trace, Filled, AddsAll}
 use Rattle.day.proofs.Records.{good_placed}
 
 -- ---- the setup
@@ -45,9 +46,6 @@ rising : Tolerances 3 tolerances
 unfolding tolerances_ok tolerance_ok all_below
 rising = (tolerances_decided 3 tolerances).right refl
 
-pub started : {r : Started} → StartGives 3 104 tolerances r → r.trace ≡ day_trace 0
-started {r} G = G.done (code_one r.outcome Done (first_passed (λ n. n rising) (first_passed (λ n. n sized) G.number)))
-
 -- of the numbers 1 to 5 none is given, where the buffers are lent and 5 is not possible
 pub past_trace : (c : Call) (n : ℕ) {Lent Stored R : Type 0} {k : ℕ} → n ≤ 104 → Lent → Possible c k
     → TraceNumber (sizes (day_trace n)) Lent Stored (λ j. R) k → R
@@ -56,23 +54,13 @@ past_trace c n room lent p F =
     (first_passed (λ m. omega arith) (first_passed (λ m. m lent) (first_passed (λ m. m rising) (first_passed (λ m. m sized) F))))
 
 -- ---- the records of a file that is not refused
-pub filled_none : (s : List ℕ) {xs : Samples} {t : List ℕ} → Lent xs t → Filled s 0 xs t
-filled_none s l = record {
-  room = omega arith;
-  lent = l;
-  across = λ q h. absurd (omega arith);
-  up = λ q h. absurd (omega arith);
-  marks = λ q h. absurd (omega arith);
-  costs = λ k i j a b o h. absurd (omega arith);
-}
-
 -- a place more is stored
 stored : {A : Type 0} (z : A) (f : ℕ → A) (xs : List A) (n : ℕ) → n < length xs
     → ((q : ℕ) → q < n → get_or xs q z ≡ f q) → (q : ℕ) → q < n + 1 → get_or (set xs n (f n)) q z ≡ f q
 stored z f xs n room held =
     below_more _ n (λ q h. get_or-set_other xs n q (f n) z (λ e. omega arith) ∙ held q h) (get_or-set_same xs n (f n) z room)
 
-module _ (s : List ℕ) (good : (pause_line_of s).outcome ≡ Done) (n : ℕ) {xs : Samples} {t : List ℕ} (F : Filled s n xs t) where
+module _ (s : List ℕ) (good : (pause_line_of s).outcome ≡ Ok tt) (n : ℕ) {xs : Samples} {t : List ℕ} (F : Filled s n xs t) where
   module _ (few : n ≤ count s) where
     pub filled_ranged : Ranged xs n
     filled_ranged = record {
@@ -92,8 +80,11 @@ module _ (s : List ℕ) (good : (pause_line_of s).outcome ≡ Done) (n : ℕ) {x
     }
 
   -- one record more: it is added, or there is no room
-  module _ (more : n < count s) {r : Changed} {xs' : Samples} {t' : List ℕ}
-      (G : PutGives (day_trace n) (buffers xs t) n (day_sample s n) r (buffers xs' t')) where
+  module _ (more : n < count s) {a : Trace} {x : Sample} {r : Changed} {xs' : Samples} {t' : List ℕ} (held : a ≡ day_trace n) (next : x ≡ sample_of s n)
+      (gives : PutGives a (buffers xs t) n x r (buffers xs' t')) where
+    G : PutGives (day_trace n) (buffers xs t) n (day_sample s n) r (buffers xs' t')
+    G = rw (held, next, sample_there s good n more) at gives
+
     pub added_number : First 7 (n ≡ 104) (λ k. k ≡ 0) (code r.outcome)
     added_number =
         let S = filled_sound (omega arith) [] in
@@ -102,7 +93,7 @@ module _ (s : List ℕ) (good : (pause_line_of s).outcome ≡ Done) (n : ℕ) {x
         (first_passed (λ m. m ((good_placed s good n more).0, (good_placed s good n more).1, mark_small s n))
         (past_trace (put n (day_sample s n)) n F.room (omega (arith, F.lent), omega (arith, F.lent)) (step_number {e = e} S (puts G refl refl)) G.number))
 
-    pub filled_more : r.outcome ≡ Done → (r.trace ≡ day_trace (n + 1)) × Filled s (n + 1) xs' t'
+    pub filled_more : r.outcome ≡ Ok tt → (r.trace ≡ day_trace (n + 1)) × Filled s (n + 1) xs' t'
     filled_more d =
         let P = put_adds (day_trace n) (buffers xs t) n (day_sample s n) r (buffers xs' t') G d refl in
         let room : n < 104 = ⊎_elim (λ a. absurd (omega (arith, ap code d, a.1))) (λ a. omega (arith, F.room, a.0)) added_number in
@@ -123,12 +114,6 @@ module _ (s : List ℕ) (good : (pause_line_of s).outcome ≡ Done) (n : ℕ) {x
           },
         )
 
-    pub all_refused : (why : Refusal) → r.outcome ≡ Refused why → AddsAll s r xs' t'
-    all_refused why h = record {
-      number = ⊎_elim (λ a. inl (omega (arith, a.0), a.1)) (λ a. absurd (numbered why (ap code (sym h) ∙ a.1))) added_number;
-      done = λ d. done_refused d h;
-    }
-
-pub all_added : {s : List ℕ} {a : Trace} {xs : Samples} {t : List ℕ} → a ≡ day_trace (count s) → Filled s (count s) xs t
-    → AddsAll s (record { outcome = Done; trace = a; cells = 0 }) xs t
-all_added e F = record { number = inr (λ m. omega (arith, F.room), refl); done = λ d. (e, F) }
+    pub all_refused : (why : Refusal) → r.outcome ≡ Err why → AddsAll s (Err why) xs' t'
+    all_refused why h =
+        ⊎_elim (λ a. (omega (arith, a.0), ap code (sym h) ∙ a.1)) (λ a. absurd (numbered why (ap code (sym h) ∙ a.1))) added_number

@@ -4,7 +4,7 @@ use mathlib.Core.Logic.{⊎_elim}
 use mathlib.Core.List.{List}
 use Prim.Native.Nat.{ℕ, ◌*◌, ◌<◌}
 use native.Mathlib.Omega.{arith}
-use Rattle.refusal.specs.declared.Outcome.TheVariants.{Done}
+use Rattle.std.specs.Prelude.{Ok}
 use Rattle.refusal.proofs.Plain.{not_refuted, both_decided}
 use Rattle.sample.proofs.Coordinate.{coordinate_decided}
 use Rattle.record.specs.Record.{across, up}
@@ -21,7 +21,7 @@ pub placed : (s : List ℕ) (p : ℕ) → RecordGiven s p 0 → Placed s p
 placed s p h =
     not_refuted _ (both_decided _ _ (coordinate_decided (across s p)) (coordinate_decided (up s p))) (⊎_elim (λ a. absurd (omega (arith, a.1))) (λ a. a.0) h)
 
-module _ (s : List ℕ) (good : (pause_line_of s).outcome ≡ Done) where
+module _ (s : List ℕ) (good : (pause_line_of s).outcome ≡ Ok tt) where
   pub good_given : FileGiven s 0
   good_given = rw good at (file_given s)
 

@@ -1,25 +1,21 @@
 -- What is reported of a file: its refusal, or the text of its levels. Assumes nothing.
-use mathlib.Core.Path.{◌≡◌, refl, sym, ap, ◌∙◌}
+use mathlib.Core.Path.{◌≡◌, refl, sym, ap}
 use mathlib.Core.Logic.{inl, inr, ⊎_elim}
 use mathlib.Core.List.{List}
 use Prim.Native.Nat.{ℕ, ◌-◌, ◌≤◌, ◌<◌, zero-le}
 use native.Mathlib.Omega.{arith}
 use lib.ListN.{length}
 use Rattle.refusal.specs.declared.Refusal.{Refusal}
-use Rattle.refusal.specs.declared.Outcome.{Outcome}
-use Rattle.refusal.specs.declared.Outcome.TheVariants.{Done, Refused}
-use Rattle.refusal.specs.Number.{code}
+use Rattle.refusal.specs.Number.{number, code}
+use Rattle.std.specs.Prelude.{Ok, Err}
 use Rattle.refusal.specs.Check.{First}
 use Rattle.refusal.proofs.Rows.{numbered}
 use Rattle.sample.specs.Samples.{Samples}
 use Rattle.family.specs.Levels.{levels}
 use Rattle.family.proofs.Levels.{ranks_levels}
 use Rattle.readout.specs.Read.{rank}
-use Rattle.pause.specs.declared.PauseLine.{PauseLine}
 use Rattle.pause.specs.Pause.{pause_line_of, pause_sum}
-use Rattle.pause.specs.Plain.{FileGiven}
 use Rattle.pause.proofs.Plain.{file_given}
-use Rattle.trace.specs.declared.Changed.{Changed}
 use Rattle.trace.specs.declared.Levels.{Levels}
 use Rattle.trace.specs.Calls.{ReadGives, buffers}
 use Rattle.history.specs.Run.Call.{read}
@@ -32,34 +28,27 @@ use Rattle.text.proofs.Written.{written_as}
 use Rattle.lines.specs.Lines.{refused_line}
 use Rattle.lines.specs.Held.{held_text}
 use Rattle.day.specs.Day.{count, tolerances, DayNumber, DayLevels, Reported, levels_text}
-use Rattle.day.specs.Fill.{day_trace, Filled, AddsAll}
+use Rattle.day.specs.Fill.{day_trace, Filled}
 use Rattle.day.proofs.Records.{good_given}
 use Rattle.day.proofs.Filled.{past_trace, filled_ranged, filled_sound}
 use Rattle.day.proofs.Listed.{chosen_listed}
 use Rattle.day.proofs.Lines.{held_lines_lem}
 
 -- ---- refused
-refusal_some : {o : Outcome} {why : Refusal} → o ≡ Refused why → code o ≡ 0 → ⊥
-refusal_some {why = why} h z = numbered why (ap code (sym h) ∙ z)
+pub reported_refused : {s out out' : List ℕ} {r : ℕ} (why : Refusal) → DayNumber s (number why) → Written out 0 (refused_line (number why)) out' r → Reported s out out' r
+reported_refused why g W =
+    (refused_line (number why), record { number = number why; given = g; refused = λ n. refl; done = λ z. absurd (numbered why z) }, W)
 
-refused_text : {s out out' : List ℕ} {r k : ℕ} → DayNumber s k → (k ≡ 0 → ⊥) → Written out 0 (refused_line k) out' r → Reported s out out' r
-refused_text {k = k} g some W = (refused_line k, record { number = k; given = g; refused = λ n. refl; done = λ z. absurd (some z) }, W)
+-- by the pause line
+pub number_file : (s : List ℕ) (why : Refusal) → (pause_line_of s).outcome ≡ Err why → DayNumber s (number why)
+number_file s why h = inl (rw h at (file_given s), numbered why)
 
-module _ {s out out' : List ℕ} {r : ℕ} {why : Refusal} where
-  -- by the pause line
-  pub reported_file : (l : PauseLine) → l ≡ pause_line_of s → l.outcome ≡ Refused why
-      → Written out 0 (refused_line (code l.outcome)) out' r → Reported s out out' r
-  reported_file l e h W =
-      let g : FileGiven s (code l.outcome) = rw e (file_given s) in
-      refused_text (inl (g, refusal_some h)) (refusal_some h) W
-
-  -- by a put
-  pub reported_full : {c : Changed} {xs : Samples} {t : List ℕ} → (pause_line_of s).outcome ≡ Done → AddsAll s c xs t → c.outcome ≡ Refused why
-      → Written out 0 (refused_line (code c.outcome)) out' r → Reported s out out' r
-  reported_full good A h W = refused_text (inr (good_given s good, ⊎_elim inl (λ a. absurd (refusal_some h a.1)) A.number)) (refusal_some h) W
+-- by a put
+pub number_full : (s : List ℕ) (k : ℕ) → (pause_line_of s).outcome ≡ Ok tt → 104 < count s → k ≡ 7 → DayNumber s k
+number_full s k good more e = inr (good_given s good, inl (more, e))
 
 -- ---- a day whose records are added, and read
-module _ (s : List ℕ) (good : (pause_line_of s).outcome ≡ Done) {xs : Samples} {t : List ℕ} (F : Filled s (count s) xs t) {bytes bytes' : List ℕ} {l : Levels}
+module _ (s : List ℕ) (good : (pause_line_of s).outcome ≡ Ok tt) {xs : Samples} {t : List ℕ} (F : Filled s (count s) xs t) {bytes bytes' : List ℕ} {l : Levels}
     (room : length bytes ≡ 104) (G : ReadGives (day_trace (count s)) (buffers xs t) bytes l (buffers xs t) bytes') where
   read_number : First 9 (count s < 2) (λ k. k ≡ 0) (code l.outcome)
   read_number =
@@ -70,11 +59,10 @@ module _ (s : List ℕ) (good : (pause_line_of s).outcome ≡ Done) {xs : Sample
   fits h = omega (arith, F.room)
 
   -- refused by the read
-  pub reported_few : {out out' : List ℕ} {r : ℕ} {why : Refusal} → l.outcome ≡ Refused why
-      → Written out 0 (refused_line (code l.outcome)) out' r → Reported s out out' r
-  reported_few h W = refused_text (inr (good_given s good, inr (fits, read_number))) (refusal_some h) W
+  pub number_few : (why : Refusal) → l.outcome ≡ Err why → DayNumber s (number why)
+  number_few why h = inr (good_given s good, inr (fits, rw h at read_number))
 
-  module _ (d : l.outcome ≡ Done) where
+  module _ (d : l.outcome ≡ Ok tt) where
     shown : Shown (state (day_trace (count s)) (buffers xs t) bytes') l
     shown = sound_shown (filled_sound s good (count s) F (omega arith) bytes) (reads G refl) (ap code d)
 

@@ -1,14 +1,12 @@
 -- A day as the code holds it: a trace with a file's first records. Only contracts of private functions cite it. Assumes nothing.
-use Rattle.std.specs.Prelude.{◌≡◌, List, ℕ, ◌≤◌, ◌<◌, pos, length, get_or}
-use Rattle.refusal.specs.declared.Outcome.TheVariants.{Done}
-use Rattle.refusal.specs.Number.{code}
-use Rattle.refusal.specs.Check.{First}
+use Rattle.std.specs.Prelude.{◌≡◌, List, ℕ, ◌≤◌, ◌<◌, pos, length, get_or, Result, Ok, Err}
+use Rattle.refusal.specs.declared.Refusal.{Refusal}
+use Rattle.refusal.specs.Number.{number}
 use Rattle.sample.specs.Samples.{Samples}
 use Rattle.family.specs.Levels.{Costs}
 use Rattle.table.specs.Table.{cell}
 use Rattle.costs.specs.Costs.{Permit}
 use Rattle.trace.specs.declared.Trace.{Trace}
-use Rattle.trace.specs.declared.Changed.{Changed}
 use Rattle.day.specs.Day.{count, day_sample, tolerances}
 
 -- the day's setup, with n samples
@@ -29,6 +27,6 @@ pub record Filled (s : List ℕ) (n : ℕ) (xs : Samples) (t : List ℕ) : Type 
   pub costs : Costs (Permit xs tolerances) (cell t 104) 3 n
 
 -- every record was added, or the 105th found no room
-pub record AddsAll (s : List ℕ) (r : Changed) (xs : Samples) (t : List ℕ) : Type 0 where
-  pub number : First 7 (104 < count s) (λ k. k ≡ 0) (code r.outcome)
-  pub done : r.outcome ≡ Done → (r.trace ≡ day_trace (count s)) × Filled s (count s) xs t
+abbrev pub AddsAll : List ℕ → Result Trace Refusal → Samples → List ℕ → Type 0
+AddsAll s (Ok a) xs t = (a ≡ day_trace (count s)) × Filled s (count s) xs t
+AddsAll s (Err why) xs t = (104 < count s) × (number why ≡ 7)

@@ -1,10 +1,9 @@
 // days: what dayline prints of each day of a list. A day is its length in bytes, four bytes low first, and its records.
 #![tactic(auto)]
 
-ghost use Rattle.std.specs.Prelude.{◌≤◌, length};
-
 use std::io;
 use std::io::{Read, Write};
+use text::Text;
 
 // The bytes of a day at the most.
 const DAY_MOST: usize = 65552;
@@ -12,9 +11,13 @@ const DAY_MOST: usize = 65552;
 // Print the number of a day and its text.
 fn print_day<W: Write>(output: &mut W, number: u64, file: &[u8]) -> io::Result<()> {
     let mut head = [0u8; 32];
-    let at = text::bytes(&mut head, 0, b"day ");
-    let at = text::number(&mut head, at, number);
-    let end = text::byte(&mut head, at, b'\n');
+    let mut text = Text {
+        out: &mut head,
+        at: 0,
+    };
+    text.labelled(b"day ", number);
+    text.byte(b'\n');
+    let end = text.at;
     output.write_all(&head[..end])?;
     let mut out = [0u8; day::TEXT_ROOM];
     let k = day::report(file, &mut out);
@@ -27,16 +30,6 @@ fn broken<W: Write>(output: &mut W) -> io::Result<bool> {
     Ok(false)
 }
 
-// Read n bytes to the start of the buffer, none where there is no room; how many there were.
-fn read_day<R: Read>(input: &mut R, day: &mut [u8], n: usize) -> usize
-    ensures { result ≤ length day.new }
-{
-    if day.len() < n {
-        return 0;
-    }
-    input::read_full(input, &mut day[..n])
-}
-
 // Read a day and print its text; whether there was one.
 fn turn<R: Read, W: Write>(input: &mut R, output: &mut W, number: u64) -> io::Result<bool> {
     let mut bytes = [0u8; 4];
@@ -44,16 +37,15 @@ fn turn<R: Read, W: Write>(input: &mut R, output: &mut W, number: u64) -> io::Re
     if got == 0 {
         return Ok(false);
     }
-    if got < 4 {
+    let n = u32::from_le_bytes(bytes) as usize;
+    if got < bytes.len() || n > DAY_MOST {
         return broken(output);
     }
-    let n = words::long_at(&bytes, 0) as usize;
     let mut day = [0u8; DAY_MOST];
-    let k = read_day(input, &mut day, n);
-    if k != n {
+    if input::read_full(input, &mut day[..n]) < n {
         return broken(output);
     }
-    print_day(output, number, &day[..k])?;
+    print_day(output, number, &day[..n])?;
     Ok(true)
 }
 

@@ -1,8 +1,7 @@
 -- A sample that no permitted stretch passes over is in every level of every family. Assumes nothing.
 use Prim.Native.Nat.{ℕ, ◌≤◌, ◌<◌}
 use mathlib.Core.Path.{◌≡◌}
-use mathlib.Core.List.Memᴰ.{head as here}
-use mathlib.Core.List.Memᴰ.{tail as there}
+use mathlib.Core.List.Memᴰ.{head as here, tail as there}
 use mathlib.Core.List.{List, Memᴰ as In}
 use native.Mathlib.Decide.{ℕ_discrete, dec_le}
 use native.Mathlib.Omega.{arith}

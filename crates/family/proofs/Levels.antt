@@ -4,11 +4,7 @@ use Prim.Native.Nat.{ℕ, zero, suc, ◌+◌, ◌-◌, ◌≤◌, ◌<◌, zero-
 use mathlib.Core.Path.{◌≡◌, refl, sym, ◌∙◌, ap, ap₂}
 use mathlib.Core.Logic.{◌↔◌, ◌⊎◌, inl, inr}
 use mathlib.Core.Bool.{Bool, false}
-use mathlib.Core.List.Memᴰ.{cases_cons as in-cons}
-use mathlib.Core.List.Memᴰ.{eq_of_singleton as in_one}
-use mathlib.Core.List.Memᴰ.{head as here}
-use mathlib.Core.List.Memᴰ.{not-nil as in-nil}
-use mathlib.Core.List.Memᴰ.{tail as there}
+use mathlib.Core.List.Memᴰ.{cases_cons as in-cons, eq_of_singleton as in_one, head as here, not-nil as in-nil, tail as there}
 use mathlib.Core.List.{List, [], ◌∷◌, Memᴰ as In}
 use native.Mathlib.Omega.{arith}
 use native.Mathlib.Decide.{dec_le, dec_lt, ℕ_discrete}

@@ -1,31 +1,72 @@
 // Whether a stretch of samples may be drawn as one segment, in whole numbers.
 #![tactic(auto)]
 
-ghost use Rattle.std.specs.Prelude.{◌≡◌, ◌+◌, ◌≤◌, ◌<◌, pos, nat_abs, length, get_or};
+ghost use Rattle.std.specs.Prelude.{◌≡◌, ◌+◌, ◌≤◌, ◌<◌, ◌-ℤ◌, nat_abs, length};
 ghost use Rattle.refusal.specs.Check.{Decides};
 ghost use Rattle.algebra.specs.Parts.{sq};
-ghost use Rattle.sample.specs.Coordinate.{Coord, InRange};
+ghost use Rattle.sample.specs.Coordinate.{InRange};
 ghost use Rattle.geometry.specs.Near.{Along};
-ghost use Rattle.geometry.specs.Nearest.{distance_from, distance};
-ghost use Rattle.sample.specs.Samples.{samples};
+ghost use Rattle.geometry.specs.Nearest.{dot, cross, distance_from, distance};
+ghost use Rattle.sample.specs.Lent.{lent};
 ghost use Rattle.geometry.specs.Spoiler.{Clear, Told, Says};
 ghost use Rattle.sample.specs.Sweep.{Ranged};
 ghost use Rattle.geometry.specs.Way.{way, Way, NearBy};
 
-// The way from one sample to another, across or up.
-fn way(xs: &[i16], from: usize, to: usize) -> i64
-    requires { (from < length xs.now) × (to < length xs.now) × (Coord (get_or xs.now from (pos 0))) × (Coord (get_or xs.now to (pos 0))) }
-    ensures { result ≡ way xs.now from to }
-{
-    xs[to] as i64 - xs[from] as i64
+use sample::Lent;
+
+// A way across and up, from one sample to another.
+#[derive(Clone, Copy)]
+struct Move {
+    across: i64,
+    up: i64,
 }
 
-// The squared length of a way across and up.
-fn squared(dx: i64, dy: i64) -> u64
-    requires { (nat_abs dx ≤ 65536) × (nat_abs dy ≤ 65536) }
-    ensures { result ≡ sq dx + sq dy }
+impl Move {
+    // The square of its length.
+    fn squared(self) -> u64
+        requires { (nat_abs self.across ≤ 65536) × (nat_abs self.up ≤ 65536) }
+        ensures { result ≡ sq self.across + sq self.up }
+    {
+        (self.across * self.across + self.up * self.up) as u64
+    }
+
+    // The way from the end of another to its own end, where both begin at one sample.
+    fn past(self, other: Move) -> Move
+        requires { (Way self.across self.up) × (Way other.across other.up) }
+        ensures { (result.across ≡ self.across -ℤ other.across) × (result.up ≡ self.up -ℤ other.up) }
+    {
+        Move {
+            across: self.across - other.across,
+            up: self.up - other.up,
+        }
+    }
+
+    // The dot product.
+    fn dot(self, other: Move) -> i64
+        requires { (Way self.across self.up) × (Way other.across other.up) }
+        ensures { result ≡ dot other.across other.up self.across self.up }
+    {
+        self.across * other.across + self.up * other.up
+    }
+
+    // The cross product.
+    fn cross(self, other: Move) -> i64
+        requires { (Way self.across self.up) × (Way other.across other.up) }
+        ensures { result ≡ cross other.across other.up self.across self.up }
+    {
+        self.across * other.up - self.up * other.across
+    }
+}
+
+// The way from sample i to sample k, not before it.
+fn way(samples: Lent<'_>, i: usize, k: usize) -> Move
+    requires { (InRange samples.across.now (k + 1)) × (InRange samples.up.now (k + 1)) × (i ≤ k) }
+    ensures { (result.across ≡ way samples.entry.across.now i k) × (result.up ≡ way samples.entry.up.now i k) × (Way result.across result.up) }
 {
-    (dx * dx + dy * dy) as u64
+    Move {
+        across: samples.across[k] as i64 - samples.across[i] as i64,
+        up: samples.up[k] as i64 - samples.up[i] as i64,
+    }
 }
 
 // Where on a segment the point nearest to a sample lies: the three cases are drawn in specs/Nearest.antt.
@@ -43,22 +84,22 @@ struct Fraction {
     bottom: u64,
 }
 
-// The squared distance of a sample from the nearest point, by where that lies. (dx, dy) is the way from the segment's beginning to its end, length its square, (px, py) the way to the sample.
-fn distance_from(at: Nearest, dx: i64, dy: i64, length: u64, px: i64, py: i64) -> Fraction
-    requires { (Way dx dy) × (Way px py) × (length ≡ sq dx + sq dy) }
-    ensures { result ≡ distance_from at dx dy px py }
+// The squared distance of a sample from the nearest point, by where that lies; of the ways to the segment's end, whose squared length is given, and to the sample.
+fn distance_from(at: Nearest, end: Move, length: u64, to: Move) -> Fraction
+    requires { (Way end.across end.up) × (Way to.across to.up) × (length ≡ sq end.across + sq end.up) }
+    ensures { result ≡ distance_from at end.across end.up to.across to.up }
 {
     match at {
         Nearest::Beginning => Fraction {
-            top: squared(px, py),
+            top: to.squared(),
             bottom: 1,
         },
         Nearest::End => Fraction {
-            top: squared(px - dx, py - dy),
+            top: to.past(end).squared(),
             bottom: 1,
         },
         Nearest::Between => {
-            let cross = px * dy - py * dx;
+            let cross = to.cross(end);
             Fraction {
                 top: (cross * cross) as u64,
                 bottom: length,
@@ -68,26 +109,26 @@ fn distance_from(at: Nearest, dx: i64, dy: i64, length: u64, px: i64, py: i64) -
 }
 
 // The squared distance of the sample from the segment: first where the nearest point lies, then how far away it is.
-fn distance(dx: i64, dy: i64, length: u64, px: i64, py: i64) -> Fraction
-    requires { (Way dx dy) × (Way px py) × (length ≡ sq dx + sq dy) }
-    ensures { result ≡ distance dx dy px py }
+fn distance(end: Move, length: u64, to: Move) -> Fraction
+    requires { (Way end.across end.up) × (Way to.across to.up) × (length ≡ sq end.across + sq end.up) }
+    ensures { result ≡ distance end.across end.up to.across to.up }
 {
-    let dot = px * dx + py * dy;
+    let dot = to.dot(end);
     if dot <= 0 {
-        return distance_from(Nearest::Beginning, dx, dy, length, px, py);
+        return distance_from(Nearest::Beginning, end, length, to);
     }
     if length <= dot as u64 {
-        return distance_from(Nearest::End, dx, dy, length, px, py);
+        return distance_from(Nearest::End, end, length, to);
     }
-    distance_from(Nearest::Between, dx, dy, length, px, py)
+    distance_from(Nearest::Between, end, length, to)
 }
 
 // Whether the sample lies within reach, a squared tolerance.
-fn near(dx: i64, dy: i64, length: u64, px: i64, py: i64, reach: u64) -> bool
-    requires { (Way dx dy) × (Way px py) × (length ≡ sq dx + sq dy) × (reach ≤ 4294967296) }
-    ensures { Decides (NearBy dx dy px py reach) result }
+fn near(end: Move, length: u64, to: Move, reach: u64) -> bool
+    requires { (Way end.across end.up) × (Way to.across to.up) × (length ≡ sq end.across + sq end.up) × (reach ≤ 4294967296) }
+    ensures { Decides (NearBy end.across end.up to.across to.up reach) result }
 {
-    let d = distance(dx, dy, length, px, py);
+    let d = distance(end, length, to);
     d.top <= reach * d.bottom
 }
 
@@ -99,41 +140,34 @@ pub enum Verdict {
 }
 
 // Judge the samples from `from` on and before `to` of the stretch from sample i to sample j, by their distance at tolerance e; those before `from` are known to lie near.
-pub fn judge(xs: &[i16], ys: &[i16], i: usize, j: usize, e: u32, from: usize, to: usize) -> Verdict
-    requires in_range { (InRange xs.now (j + 1)) × (InRange ys.now (j + 1)) × (i < from) × (from ≤ to) × (to ≤ j) × (e ≤ 65536) }
-    requires clear { Clear (Along xs.now ys.now i j e) i from }
-    ensures { Told (Along xs.now ys.now i j e) i to result }
+pub fn judge(samples: Lent<'_>, i: usize, j: usize, e: u32, from: usize, to: usize) -> Verdict
+    requires in_range { (InRange samples.across.now (j + 1)) × (InRange samples.up.now (j + 1)) × (i < from) × (from ≤ to) × (to ≤ j) × (e ≤ 65536) }
+    requires clear { Clear (Along samples.across.now samples.up.now i j e) i from }
+    ensures { Told (Along samples.entry.across.now samples.entry.up.now i j e) i to result }
 {
-    let dx = way(xs, i, j);
-    let dy = way(ys, i, j);
-    let length = squared(dx, dy);
+    let end = way(samples, i, j);
+    let length = end.squared();
     let reach = e as u64 * e as u64;
-    let mut spoiler = to;
-    let mut k = from;
-    while k < spoiler {
-        if !near(dx, dy, length, way(xs, i, k), way(ys, i, k), reach) {
-            spoiler = k;
+    for k in from..to {
+        if !near(end, length, way(samples, i, k), reach) {
+            return Verdict::No(k);
         }
-        k += 1;
-    }
-    if spoiler < to {
-        return Verdict::No(spoiler);
     }
     Verdict::Yes
 }
 
 // Whether the stretch from sample i to sample j is permitted at tolerance e: yes, or no with the lowest sample that is marked or lies too far away.
-pub fn permitted(xs: &[i16], ys: &[i16], marks: &[u8], i: usize, j: usize, e: u32) -> Verdict
-    requires { (Ranged (samples xs.now ys.now marks.now) (j + 1)) × (j < length marks.now) × (i < j) × (e ≤ 65536) }
-    ensures { Says (samples xs.now ys.now marks.now) i j e result }
+pub fn permitted(samples: Lent<'_>, i: usize, j: usize, e: u32) -> Verdict
+    requires { (Ranged (lent samples) (j + 1)) × (j < length samples.marks.now) × (i < j) × (e ≤ 65536) }
+    ensures { Says (lent samples.entry) i j e result }
 {
-    let first = sample::first_marked(marks, i + 1, j);
-    let verdict = judge(xs, ys, i, j, e, i + 1, first);
+    let first = sample::first_marked(samples.marks, i + 1, j);
+    let verdict = judge(samples, i, j, e, i + 1, first);
     let Verdict::Yes = verdict else {
         return verdict;
     };
     if first < j {
         return Verdict::No(first);
     }
-    Verdict::Yes
+    verdict
 }

@@ -7,7 +7,7 @@ use Prim.Native.Nat.{ℕ, ◌-◌, ◌≤◌, zero-le}
 use native.Mathlib.Nat.{le_refl, le_antisymm}
 use native.Mathlib.Omega.{arith}
 use lib.Dec.{eqb}
-use Rattle.refusal.specs.declared.Outcome.TheVariants.{Done}
+use Rattle.std.specs.Prelude.{Ok}
 use Rattle.refusal.specs.Number.{code}
 use Rattle.refusal.proofs.Rows.{code_one, first_taken, first_passed, first_has}
 use Rattle.sample.specs.declared.Sample.{Sample}
@@ -42,7 +42,7 @@ use Rattle.history.proofs.Sound.{Sound, state, state_is, by_lists, step_sound}
 
 pub sound_shown : {s e : State} {r : Levels} → Sound s → Step s e read (levels r) → answered (levels r) ≡ 0 → Shown e r
 sound_shown {s} {e} {r} S (reads G t) h =
-    let d : r.outcome ≡ Done = code_one r.outcome Done h in
+    let d : r.outcome ≡ Ok tt = code_one r.outcome (Ok tt) h in
     let a = s.trace in
     let b = s.lent in
     let p = read_passed (sizes a) b.samples b.table s.ranks (rw d at G.number) in
@@ -65,7 +65,7 @@ family_keeps s L F q h m = marked_held s.lent.samples s.trace.tolerances q m F z
 -- and so by the ranks that are read
 pub sound_marked : {s e : State} {r : Levels} → Sound s → Step s e read (levels r) → answered (levels r) ≡ 0 → MarksRanked e
 sound_marked {s} {e} {r} S (reads G t) h q o m =
-    let d : r.outcome ≡ Done = code_one r.outcome Done h in
+    let d : r.outcome ≡ Ok tt = code_one r.outcome (Ok tt) h in
     let p = read_passed (sizes s.trace) s.lent.samples s.lent.table s.ranks (rw d at G.number) in
     let k : e.trace ≡ s.trace = t in
     let one : 1 ≤ e.trace.levels = rw k p.0.sized.0 in

@@ -18,7 +18,7 @@ use Rattle.costs.specs.Costs.{Named}
 use Rattle.trace.specs.declared.Trace.{Trace}
 use Rattle.trace.specs.declared.Started.{Started}
 use Rattle.trace.specs.declared.Changed.{Changed}
-use Rattle.trace.specs.declared.Stop.TheVariants as Stop
+use Rattle.std.specs.Prelude.{Ok}
 use Rattle.trace.specs.declared.Uploaded.{Uploaded}
 use Rattle.trace.specs.declared.Levels.{Levels}
 use Rattle.sizes.specs.Setup.{held_with}
@@ -144,7 +144,7 @@ pub refused_keeps : {s e : State} {c : Call} {r : Answer} → Step s e c r → (
 refused_keeps (starts {r = r} G t l k) n = by_outcome r.outcome (λ d. absurd (n (ap code d))) (λ w h. (t ∙ G.refused w h, l, k))
 refused_keeps (puts {r = r} G t k) n = by_outcome r.outcome (λ d. absurd (n (ap code d))) (λ w h. not_put (G.refused w h) t k)
 refused_keeps {s} {e} (uploads {us = us} {r = r} G t k) n =
-    (r.added, upload.uploaded Stop.AllTaken r.trace r.added r.cells, uploads (upload_firsts s.trace s.lent us r e.lent us G) t k, refl)
+    (r.added, upload.uploaded (Ok tt) r.trace r.added r.cells, uploads (upload_firsts s.trace s.lent us r e.lent us G) t k, refl)
 refused_keeps (asks G t l k) n = state_is l (buffers_is G.lent t) k
 refused_keeps (reads {r = r} G t) n = by_outcome r.outcome (λ d. absurd (n (ap code d))) (λ w h. state_is t G.lent (G.refused w h).kept)
 

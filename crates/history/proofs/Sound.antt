@@ -19,10 +19,8 @@ use Rattle.costs.proofs.Meaning.{put_costs}
 use Rattle.trace.specs.declared.Trace.{Trace}
 use Rattle.trace.specs.declared.Changed.{Changed}
 use Rattle.trace.specs.declared.Uploaded.{Uploaded}
-use Rattle.sizes.specs.Setup.{Sized, Tolerances}
+use Rattle.sizes.specs.Setup.{Sized, Tolerances, kept, held_with}
 use Rattle.checks.specs.Numbers.{PutNumber}
-use Rattle.sizes.specs.Setup.{kept}
-use Rattle.sizes.specs.Setup.{held_with}
 use Rattle.trace.specs.Calls.{sizes, Buffers, Put, NotPut, PutGives}
 use Rattle.trace.specs.Upload.{zipped, not_uploaded, Puts, UploadGives}
 use Rattle.trace.specs.Upload.Puts.{all_taken, one_refused, one_taken}

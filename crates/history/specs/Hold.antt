@@ -5,8 +5,7 @@ use Rattle.sample.specs.Mark.{Marked}
 use Rattle.sample.specs.declared.Sample.{Sample}
 use Rattle.family.specs.Levels as Levels
 use Rattle.table.specs.Table.{at, cell}
-use Rattle.costs.specs.Costs.{Permit}
-use Rattle.costs.specs.Costs.{Named}
+use Rattle.costs.specs.Costs.{Permit, Named}
 use Rattle.readout.specs.Read.{rank}
 use Rattle.trace.specs.declared.Changed.{Changed}
 use Rattle.trace.specs.declared.Uploaded.{Uploaded}

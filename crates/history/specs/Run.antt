@@ -8,9 +8,8 @@ use Rattle.trace.specs.declared.Trace.{Trace}
 use Rattle.trace.specs.declared.Started.{Started}
 use Rattle.trace.specs.declared.Changed.{Changed}
 use Rattle.trace.specs.declared.Uploaded.{Uploaded}
-use Rattle.trace.specs.declared.Asked.{Asked}
 use Rattle.trace.specs.declared.Levels.{Levels}
-use Rattle.trace.specs.Calls.{Buffers, StartGives, PutGives, AskGives, ReadGives, asked}
+use Rattle.trace.specs.Calls.{Buffers, StartGives, PutGives, Asked, AskGives, ReadGives, asked}
 use Rattle.trace.specs.Upload.{stopped, UploadGives}
 
 pub record State : Type 0 where

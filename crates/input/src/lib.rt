@@ -15,9 +15,8 @@ pub fn read_full<R: Read>(input: &mut R, buf: &mut [u8]) -> usize
             break;
         }
         match input.read(&mut buf[done..]) {
-            Ok(0) => break,
+            Ok(0) | Err(_) => break,
             Ok(n) => done += n,
-            Err(_) => break,
         }
     }
     done

@@ -4,10 +4,12 @@
 ghost use Rattle.std.specs.Prelude.{◌∷◌, ◌≤◌, length, get_or};
 ghost use Rattle.refusal.specs.Number.{code};
 ghost use Rattle.text.specs.Text.{Written, signed_decimal};
+ghost use Rattle.text.specs.Writes.{Writes};
 ghost use Rattle.lines.specs.Lines.{refused_line, counts_line, sample_line, counted_line, pause_text};
 ghost use Rattle.lines.specs.Held.{held_lines, held_text};
 
 use refusal::Outcome;
+use text::Text;
 
 // The levels of a day.
 pub const LEVELS: usize = 3;
@@ -16,82 +18,68 @@ pub const LEVELS: usize = 3;
 pub fn refused_line(out: &mut [u8], why: Outcome) -> usize
     ensures { Written out.old 0 (refused_line (code why)) out.new result }
 {
-    let at = text::labelled(out, 0, b"refused ", refusal::number(why) as u64);
-    text::byte(out, at, b'\n')
+    let mut text = Text { out, at: 0 };
+    text.labelled(b"refused ", refusal::number(why) as u64);
+    text.byte(b'\n');
+    text.at
 }
 
 // The line with sample and level counts.
-fn counts_line(out: &mut [u8], at: usize, samples: usize) -> usize
-    requires { at ≤ length out.old }
-    ensures { Written out.old at (counts_line samples) out.new result }
+fn counts_line(text: &mut Text<'_>, samples: usize)
+    ensures { Writes text.old (counts_line samples) text.new }
 {
-    let at = text::labelled(out, at, b"samples ", samples as u64);
-    let at = text::labelled(out, at, b" levels ", LEVELS as u64);
-    text::byte(out, at, b'\n')
+    text.labelled(b"samples ", samples as u64);
+    text.labelled(b" levels ", LEVELS as u64);
+    text.byte(b'\n');
 }
 
 // A coordinate after a space.
-fn coordinate(out: &mut [u8], at: usize, z: i16) -> usize
-    requires { at ≤ length out.old }
-    ensures { Written out.old at (32 ∷ signed_decimal z) out.new result }
+fn coordinate(text: &mut Text<'_>, z: i16)
+    ensures { Writes text.old (32 ∷ signed_decimal z) text.new }
 {
-    let at = text::byte(out, at, b' ');
-    text::signed(out, at, z)
+    text.byte(b' ');
+    text.signed(z);
 }
 
 // The line of sample i: its number, across, up, rank.
-fn sample_line(out: &mut [u8], at: usize, i: usize, x: i16, y: i16, rank: u8) -> usize
-    requires { at ≤ length out.old }
-    ensures { Written out.old at (sample_line i x y rank) out.new result }
+fn sample_line(text: &mut Text<'_>, i: usize, x: i16, y: i16, rank: u8)
+    ensures { Writes text.old (sample_line i x y rank) text.new }
 {
-    let at = text::number(out, at, i as u64);
-    let at = coordinate(out, at, x);
-    let at = coordinate(out, at, y);
-    let at = text::labelled(out, at, b" ", rank as u64);
-    text::byte(out, at, b'\n')
+    text.number(i as u64);
+    coordinate(text, x);
+    coordinate(text, y);
+    text.labelled(b" ", rank as u64);
+    text.byte(b'\n');
 }
 
 // The lines of the first n samples.
-fn sample_lines(out: &mut [u8], at: usize, xs: &[i16], ys: &[i16], ranks: &[u8], n: usize) -> usize
-    requires at_in_bounds { at ≤ length out.old }
-    requires n_in_bounds { (n ≤ length xs.now) × (n ≤ length ys.now) × (n ≤ length ranks.now) }
-    ensures { Written out.old at (held_lines xs.now ys.now ranks.now n)
-        out.new result }
+fn sample_lines(text: &mut Text<'_>, xs: &[i16], ys: &[i16], ranks: &[u8], n: usize)
+    requires { (n ≤ length xs.now) × (n ≤ length ys.now) × (n ≤ length ranks.now) }
+    ensures { Writes text.old (held_lines xs.now ys.now ranks.now n) text.new }
 {
-    let mut end = at;
-    let mut i = 0;
-    while i < n {
-        let x = xs[i];
-        let y = ys[i];
-        end = sample_line(out, end, i, x, y, ranks[i]);
-        i += 1;
+    for i in 0..n {
+        sample_line(text, i, xs[i], ys[i], ranks[i]);
     }
-    end
 }
 
 // The line of segments: the total, and the count of each level.
-fn segments_line(out: &mut [u8], at: usize, total: u32, segments: [u16; 16]) -> usize
-    requires { at ≤ length out.old }
-    ensures { Written out.old at (counted_line total (get_or segments 0 0) (get_or segments 1 0) (get_or segments 2 0))
-        out.new result }
+fn segments_line(text: &mut Text<'_>, total: u32, segments: [u16; 16])
+    ensures { Writes text.old (counted_line total (get_or segments 0 0) (get_or segments 1 0) (get_or segments 2 0)) text.new }
 {
-    let fine = segments[0] as u64;
-    let middle = segments[1] as u64;
-    let coarse = segments[2] as u64;
-    let at = text::labelled(out, at, b"segments ", total as u64);
-    let at = text::labelled(out, at, b" ", fine);
-    let at = text::labelled(out, at, b" ", middle);
-    let at = text::labelled(out, at, b" ", coarse);
-    text::byte(out, at, b'\n')
+    let [fine, middle, coarse, ..] = segments;
+    text.labelled(b"segments ", total as u64);
+    text.labelled(b" ", fine as u64);
+    text.labelled(b" ", middle as u64);
+    text.labelled(b" ", coarse as u64);
+    text.byte(b'\n');
 }
 
 // The line of the pauses.
-fn pause_line(out: &mut [u8], at: usize, sum: u64) -> usize
-    requires { at ≤ length out.old }
-    ensures { Written out.old at (pause_text sum) out.new result }
+fn pause_line(text: &mut Text<'_>, sum: u64)
+    ensures { Writes text.old (pause_text sum) text.new }
 {
-    let at = text::labelled(out, at, b"pause ", sum);
-    text::byte(out, at, b'\n')
+    text.labelled(b"pause ", sum);
+    text.byte(b'\n');
 }
 
 // The text of n samples with their ranks, of the levels' segments and of the pauses.
@@ -109,8 +97,10 @@ pub fn levels_text(
     ensures { Written out.old 0
         (held_text xs.now ys.now ranks.now n total segments sum) out.new result }
 {
-    let at = counts_line(out, 0, n);
-    let at = sample_lines(out, at, xs, ys, ranks, n);
-    let at = segments_line(out, at, total, segments);
-    pause_line(out, at, sum)
+    let mut text = Text { out, at: 0 };
+    counts_line(&mut text, n);
+    sample_lines(&mut text, xs, ys, ranks, n);
+    segments_line(&mut text, total, segments);
+    pause_line(&mut text, sum);
+    text.at
 }

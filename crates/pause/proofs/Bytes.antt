@@ -1,8 +1,8 @@
 -- A record of a file, taken alone, says what it says in the file. Assumes nothing.
 use Rattle.std.proofs.Common.{◌≡◌, ℕ, ◌+◌, ◌*◌, ◌/◌, ◌<◌, ◌≤◌, eqb, List, length, get_or, take, drop, sym, refl, ap, ◌∙◌, add-zero, add_assoc, arith, length-drop, length-take-le, get_or-drop, get_or-take, lt-ltb, eq-eqb}
 use native.Mathlib.Nat.{mul-div-le}
-use Rattle.refusal.specs.declared.Outcome.{Outcome}
-use Rattle.refusal.specs.declared.Outcome.TheVariants.{Done, Refused}
+use Rattle.refusal.specs.Number.{Outcome}
+use Rattle.std.specs.Prelude.{Ok, Err}
 use Rattle.refusal.proofs.Laws.{all_same}
 use Rattle.words.specs.Word.{word, long, signed, signed_at}
 use Rattle.record.specs.Record.{counter, edition_ok, spare_ok, fields_ok, record_outcome, decode_outcome, decoded_by, decode_of}
@@ -53,13 +53,13 @@ module _ (s : List ℕ) (i : ℕ) (h : i < length s / 16) where
   outcomes = simp (eq-eqb _ _ bytes_length, acrosses, fields 2 (omega arith), rest)
 
   said : (o : Outcome) → decoded_by o (record_bytes s i) 0 ≡ decoded_by o s (16 * i)
-  said Done = rw (acrosses, fields 2 (omega arith), counters, byte 8 (omega arith), words 9 (omega arith), byte 11 (omega arith))
-  said (Refused r) = refl
+  said (Ok _) = rw (acrosses, fields 2 (omega arith), counters, byte 8 (omega arith), words 9 (omega arith), byte 11 (omega arith))
+  said (Err r) = refl
 
   pub decode_alone : decode_of (record_bytes s i) ≡ decoded_by (record_outcome s (16 * i)) s (16 * i)
   unfolding decode_of
   decode_alone = ap (λ (o : Outcome). decoded_by o (record_bytes s i) 0) outcomes ∙ said (record_outcome s (16 * i))
 
   -- so no record of a file whose pause line is given is refused
-  pub decode_good : (pause_line_of s).outcome ≡ Done → (decode_of (record_bytes s i)).outcome ≡ Done
+  pub decode_good : (pause_line_of s).outcome ≡ Ok tt → (decode_of (record_bytes s i)).outcome ≡ Ok tt
   decode_good g = decode_outcome_lem (record_bytes s i) ∙ outcomes ∙ file_good s i g h

@@ -1,48 +1,40 @@
 -- Laws of the pause line's definitions. Assumes nothing.
-use Rattle.std.proofs.Common.{◌≡◌, ℕ, zero, suc, ◌+◌, ◌-◌, ◌*◌, ◌/◌, ◌%◌, ◌<◌, ◌≤◌, eqb, leb, List, length, sym, refl, ap, ◌∙◌, ⊎_elim, le_of_suc-le-suc, not-suc-le-zero, eq-or-lt_of_le, add-one, arith, leb-true}
+use Rattle.std.proofs.Common.{◌≡◌, ℕ, zero, suc, ◌+◌, ◌-◌, ◌*◌, ◌/◌, ◌<◌, ◌≤◌, List, length, sym, ap, ⊎_elim, le_of_suc-le-suc, eq-or-lt_of_le, arith}
+use Rattle.std.proofs.lemmas.Bool.Decides.{nat_tests}
 use Rattle.refusal.specs.declared.Refusal.{Refusal}
-use Rattle.refusal.specs.declared.Refusal.TheVariants.{Length}
-use Rattle.refusal.specs.declared.Outcome.{Outcome}
-use Rattle.refusal.specs.declared.Outcome.TheVariants.{Done, Refused}
-use Rattle.refusal.specs.Check.{and_then}
-use Rattle.refusal.proofs.Laws.{and_right, need_done, then_done}
+use Rattle.refusal.specs.Number.{Outcome}
+use Rattle.std.specs.Prelude.{Ok, Err}
+use Rattle.refusal.proofs.Laws.{then_done}
 use Rattle.record.specs.Record.{record_outcome}
 use Rattle.pause.specs.Pause.{file_length_ok, records_outcome, file_outcome, increase, increase_at, pause_sum, line_by, pause_line_of}
 
 -- one record more
-pub records_more : (s : List ℕ) (n : ℕ) (o : Outcome) → records_outcome s n ≡ Done → record_outcome s (16 * n) ≡ o → records_outcome s (n + 1) ≡ o
+pub records_more : (s : List ℕ) (n : ℕ) (o : Outcome) → records_outcome s n ≡ Ok tt → record_outcome s (16 * n) ≡ o → records_outcome s (n + 1) ≡ o
 unfolding records_outcome
-records_more s n o h e = ap (records_outcome s) (add-one n) ∙ ap (λ (p : Outcome). and_then p (record_outcome s (16 * n))) h ∙ e
+records_more s n o h e = grind arith
 
 -- the first refusal stays
-pub records_refused : (s : List ℕ) (i n : ℕ) (r : Refusal) → records_outcome s i ≡ Done → record_outcome s (16 * i) ≡ Refused r → i < n → records_outcome s n ≡ Refused r
+pub records_refused : (s : List ℕ) (i n : ℕ) (r : Refusal) → records_outcome s i ≡ Ok tt → record_outcome s (16 * i) ≡ Err r → i < n → records_outcome s n ≡ Err r
 unfolding records_outcome
-records_refused s i zero r h e l = absurd (not-suc-le-zero l)
-records_refused s i (suc n) r h e l =
-    ⊎_elim (λ q. ap (λ (k : ℕ). records_outcome s (suc k)) (sym q) ∙ ap (λ (p : Outcome). and_then p (record_outcome s (16 * i))) h ∙ e)
-    (λ lt. ap (λ (p : Outcome). and_then p (record_outcome s (16 * n))) (records_refused s i n r h e lt))
-    (eq-or-lt_of_le (le_of_suc-le-suc l))
+records_refused s i zero r h e l = grind arith
+records_refused s i (suc n) r h e l = ⊎_elim (λ q. rw (← q, h, e)) (λ lt. rw (records_refused s i n r h e lt)) (eq-or-lt_of_le (le_of_suc-le-suc l))
 
 pub increase_after : (s : List ℕ) (n : ℕ) → (n ≡ 0 → ⊥) → increase_at s n ≡ increase s (16 * (n - 1)) (16 * n)
 unfolding increase_at
-increase_after s zero h = absurd (h refl)
-increase_after s (suc n) h = let e : n ≡ suc n - 1 = omega arith in ap (λ (k : ℕ). increase s (16 * k) (16 * suc n)) e
+increase_after s zero h = grind arith
+increase_after s (suc n) h = grind arith
 
 pub sum_more : (s : List ℕ) (n : ℕ) → pause_sum s (n + 1) ≡ pause_sum s n + increase_at s n
 unfolding pause_sum
-sum_more s n = ap (pause_sum s) (add-one n)
+sum_more s n = grind arith
 
-pub file_count : (s : List ℕ) → file_outcome s ≡ Done → length s / 16 ≤ 4096
+pub file_count : (s : List ℕ) → file_outcome s ≡ Ok tt → length s / 16 ≤ 4096
 unfolding file_outcome file_length_ok
-file_count s h = leb-true (length s / 16) 4096 (and_right (eqb (length s % 16) 0) (leb (length s / 16) 4096) (need_done _ _ _ h).0)
-
-outcome_by : (o : Outcome) (s : List ℕ) → (line_by o s).outcome ≡ o
-outcome_by Done s = refl
-outcome_by (Refused r) s = refl
+file_count s h = grind (arith, nat_tests)
 
 pub line_outcome : (s : List ℕ) → (pause_line_of s).outcome ≡ file_outcome s
 unfolding pause_line_of
-line_outcome s = outcome_by (file_outcome s) s
+line_outcome s = grind arith
 
 -- the outcome fixes the sum: a refusal comes with 0
 pub line_by_lem : (s : List ℕ) → pause_line_of s ≡ line_by (pause_line_of s).outcome s
@@ -51,27 +43,21 @@ line_by_lem s = ap (λ (o : Outcome). line_by o s) (sym (line_outcome s))
 
 sum_few : (s : List ℕ) (n : ℕ) → n ≤ 1 → pause_sum s n ≡ 0
 unfolding pause_sum increase_at
-sum_few s zero h = refl
-sum_few s (suc zero) h = refl
-sum_few s (suc (suc n)) h = absurd (not-suc-le-zero (le_of_suc-le-suc h))
-
-few_by : (o : Outcome) (s : List ℕ) → length s / 16 ≤ 1 → (line_by o s).sum ≡ 0
-few_by Done s h = sum_few s (length s / 16) h
-few_by (Refused r) s h = refl
+sum_few s zero h = grind arith
+sum_few s (suc zero) h = grind arith
+sum_few s (suc (suc n)) h = grind arith
 
 -- for no record or one the line is 0
 pub line_few : (s : List ℕ) → length s / 16 ≤ 1 → (pause_line_of s).sum ≡ 0
 unfolding pause_line_of
-line_few s h = few_by (file_outcome s) s h
+line_few s h = grind (arith, sum_few)
 
 -- where a file is good, so is every record of it
-records_good : (s : List ℕ) (n i : ℕ) → records_outcome s n ≡ Done → i < n → record_outcome s (16 * i) ≡ Done
+records_good : (s : List ℕ) (n i : ℕ) → records_outcome s n ≡ Ok tt → i < n → record_outcome s (16 * i) ≡ Ok tt
 unfolding records_outcome
-records_good s zero i h l = absurd (not-suc-le-zero l)
-records_good s (suc n) i h l =
-    let d = then_done (records_outcome s n) (record_outcome s (16 * n)) h in
-    ⊎_elim (λ e. ap (λ (k : ℕ). record_outcome s (16 * k)) e ∙ d.1) (λ m. records_good s n i d.0 m) (eq-or-lt_of_le (le_of_suc-le-suc l))
+records_good s zero i h l = grind arith
+records_good s (suc n) i h l = grind (arith, records_good s n i, then_done)
 
-pub file_good : (s : List ℕ) (i : ℕ) → (pause_line_of s).outcome ≡ Done → i < length s / 16 → record_outcome s (16 * i) ≡ Done
+pub file_good : (s : List ℕ) (i : ℕ) → (pause_line_of s).outcome ≡ Ok tt → i < length s / 16 → record_outcome s (16 * i) ≡ Ok tt
 unfolding file_outcome
-file_good s i h l = records_good s (length s / 16) i (need_done (file_length_ok (length s)) Length _ (sym (line_outcome s) ∙ h)).1 l
+file_good s i h l = grind (arith, records_good, line_outcome)

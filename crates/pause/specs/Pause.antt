@@ -1,8 +1,7 @@
 -- The pause line of a file of records. Assumes nothing.
-use Rattle.std.specs.Prelude.{ℕ, zero, suc, ◌+◌, ◌-◌, ◌*◌, ◌/◌, ◌%◌, Bool, cond, ◌&&◌, List, [], length, take, drop, ◌==◌, nat_le, nat_lt}
+use Rattle.std.specs.Prelude.{ℕ, zero, suc, ◌+◌, ◌-◌, ◌*◌, ◌/◌, ◌%◌, Bool, cond, ◌&&◌, List, [], length, take, drop, ◌==◌, nat_le, nat_lt, Ok, Err}
 use Rattle.refusal.specs.declared.Refusal.TheVariants.{Length}
-use Rattle.refusal.specs.declared.Outcome.{Outcome}
-use Rattle.refusal.specs.declared.Outcome.TheVariants.{Done, Refused}
+use Rattle.refusal.specs.Number.{Outcome}
 use Rattle.refusal.specs.Check.{need, and_then}
 use Rattle.pause.specs.declared.PauseLine.{PauseLine}
 use Rattle.record.specs.Record.{counter, boot, edition, record_outcome}
@@ -17,12 +16,12 @@ file_length_ok len = len % 16 == 0 && nat_le (len / 16) 4096
 
 -- the first n records in file order
 unfoldable pub records_outcome : List ℕ → ℕ → Outcome
-records_outcome s zero = Done
+records_outcome s zero = Ok tt
 records_outcome s (suc n) = and_then (records_outcome s n) (record_outcome s (16 * n))
 
 -- 10 for the whole, then 6 and 11 of each record
 unfoldable pub file_outcome : List ℕ → Outcome
-file_outcome s = need (file_length_ok (length s)) (Refused Length) (records_outcome s (length s / 16))
+file_outcome s = need (file_length_ok (length s)) (Err Length) (records_outcome s (length s / 16))
 
 -- the old rule: later minus earlier when the later counter is not lower; a lower one means a restart, and then it is the later counter itself
 unfoldable pub old_increase : ℕ → ℕ → ℕ
@@ -56,8 +55,8 @@ pause_sum s (suc n) = pause_sum s n + increase_at s n
 
 -- the sum where nothing was refused, else 0
 abbrev pub line_by : Outcome → List ℕ → PauseLine
-line_by Done s = record { outcome = Done; sum = pause_sum s (length s / 16) }
-line_by (Refused r) s = record { outcome = Refused r; sum = 0 }
+line_by (Ok _) s = record { outcome = Ok tt; sum = pause_sum s (length s / 16) }
+line_by (Err r) s = record { outcome = Err r; sum = 0 }
 
 unfoldable pub pause_line_of : List ℕ → PauseLine
 pause_line_of s = line_by (file_outcome s) s

@@ -1,5 +1,5 @@
 -- The walk down the levels, from the ranks to start from to the read-out. Assumes nothing.
-use mathlib.Core.Path.{◌≡◌, refl, ◌∙◌}
+use mathlib.Core.Path.{◌≡◌, ◌∙◌}
 use mathlib.Core.Logic.{◌⊎◌, inl, inr, ⊎_elim}
 use mathlib.Core.List.{List}
 use Prim.Native.Nat.{ℕ, suc, ◌+◌, ◌-◌, ◌≤◌, ◌<◌}
@@ -10,7 +10,7 @@ use Rattle.family.specs.Family.{Readout}
 use Rattle.family.proofs.Ranks.{read_flat}
 use Rattle.table.specs.Table.{cell}
 use Rattle.readout.specs.Read.{rank}
-use Rattle.readout.specs.Lay.{Ranked, LaidTo, Laying, Bare, Started}
+use Rattle.readout.specs.Lay.{Ranked, LaidTo, Laying, Started}
 
 -- the levels above l of the read-out are laid: f the ranks at entry, g now
 pub record Down (c : ℕ → ℕ → ℕ → ℕ) (m n l : ℕ) (f g : ℕ → ℕ) : Type 0 where
@@ -41,9 +41,6 @@ module _ (c : ℕ → ℕ → ℕ) (k h n u : ℕ) (low : k < h) (g e : ℕ → 
         });
   }
 
-pub down_bare : (c : ℕ → ℕ → ℕ → ℕ) (m n k : ℕ) (f g : ℕ → ℕ) → k ≤ m → Down c m n k f g → Bare k n g
-down_bare c m n k f g h w = record { first = rw w.first h; last = λ x e. rw (w.last x e) h; between = w.between }
-
 module _ (c : ℕ → ℕ → ℕ → ℕ) (m n : ℕ) (hm : 0 < m) (hn : 1 < n) (f : ℕ → ℕ) where
   pub down_more : (k : ℕ) (g e : ℕ → ℕ) → 0 < k → k ≤ m → Down c m n k f g → Laying (c k) k n (n - 1) g e → Down c m n (k - 1) f e
   down_more k g e h0 h w y = record {
@@ -70,21 +67,8 @@ module _ (c : ℕ → ℕ → ℕ → ℕ) (m n : ℕ) (hm : 0 < m) (hn : 1 < n)
         (record { after = omega (arith, N.order); inside = omega arith; held = inr M.right; clear = λ z s t. omega (arith, M.between z (omega arith) t) }));
   }
 
--- before the first level, and after the last
+-- after the last level
 module _ (m n : ℕ) (r e : List ℕ) (S : Started m n r e) where
-  pub down_none : (c : ℕ → ℕ → ℕ → ℕ) → Down c m n m (rank e) (rank e)
-  down_none c = record {
-    first = S.first;
-    last = S.last;
-    top = λ x z. elim (ℕ_discrete (x + 1) n) [
-      | yes h ↦ omega (arith, S.last x h)
-      | no h ↦ elim (ℕ_discrete x 0) [ yes g ↦ rw (g, S.first) (omega arith) | no g ↦ omega (arith, S.between x (omega arith) (omega arith)) ]
-    ];
-    between = λ x a b. inl (S.between x a b);
-    laid = λ k a b. absurd (omega arith);
-    other = λ x a. refl;
-  }
-
   pub ranked : (t : List ℕ) (N : ℕ) (g : List ℕ) → 0 < m → 1 < n → length g ≡ length e → Down (cell t N) m n 0 (rank e) (rank g) → Ranked t N m n r g
   ranked t N g hm hn same D = record {
     same = same ∙ S.same;

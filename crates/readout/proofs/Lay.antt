@@ -1,8 +1,8 @@
 -- The walk along one level: a stop more is laid. Assumes nothing.
-use mathlib.Core.Path.{◌≡◌, refl, ◌∙◌}
+use mathlib.Core.Path.{◌≡◌, ◌∙◌}
 use mathlib.Core.Logic.{◌⊎◌, inl, inr, ⊎_elim}
 use Prim.Native.Nat.{ℕ, ◌≤◌, ◌<◌, max}
-use native.Mathlib.Nat.{eq-or-lt_of_le, not-suc-le-zero}
+use native.Mathlib.Nat.{eq-or-lt_of_le}
 use native.Mathlib.Decide.{ℕ_discrete, dec_le, dec_lt}
 use native.Mathlib.Omega.{arith}
 use Rattle.family.specs.Family.{next}
@@ -36,15 +36,6 @@ module _ (c : ℕ → ℕ → ℕ) (f : ℕ → ℕ) (k n p q : ℕ) (W : Way c 
 
 -- one stop more of a level
 module _ (c : ℕ → ℕ → ℕ) (k n : ℕ) (hk : 0 < k) (f : ℕ → ℕ) (bare : Bare k n f) where
-  pub laying_none : 0 < n → Laying c k n 0 f f
-  laying_none h = record {
-    grown = λ x. inl refl;
-    ahead = λ x a. refl;
-    here = bare.first;
-    inside = h;
-    laid = record { step = λ p q j a. absurd (not-suc-le-zero a) };
-  }
-
   module _ (g e : ℕ → ℕ) (p q : ℕ) (w : Laying c k n p f g) (W : Way c f k n p q) (raised : e q ≡ max (g q) k) (other : (x : ℕ) → (x ≡ q → ⊥) → e x ≡ g x) where
     after : p < q
     after = way_after c f k n p q W

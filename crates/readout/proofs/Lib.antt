@@ -1,5 +1,4 @@
 mod Scan
-mod Marks
 mod Lay
 mod Down
 mod Count

@@ -5,6 +5,8 @@ use Prim.Native.Nat.{ℕ, ◌+◌, ◌-◌, ◌≤◌, ◌<◌}
 use native.Mathlib.Nat.{le_refl}
 use native.Mathlib.Decide.{dec_lt}
 use native.Mathlib.Omega.{arith}
+use lib.ListN.{length, take, length-take}
+use Rattle.std.proofs.lemmas.List.{get_or-take}
 use lib.Seq.{ext_get_or}
 use Rattle.family.proofs.Counts.{segments_same, total_same}
 use Rattle.family.proofs.Local.{readout_cells}
@@ -36,6 +38,12 @@ counted_ranks r s m n per sum some same C = record {
   past = C.past;
   all = C.all ∙ total_same r s m 0 (n - 1) (λ x i j. rw (same x (omega arith)));
 }
+
+-- so they are counted of those alone
+pub counted_first : (e : List ℕ) (m n : ℕ) {per : List ℕ} {sum : ℕ} → 0 < n → n ≤ length e → Counted (rank (take n e)) m (length (take n e)) per sum → Counted (rank e) m n per sum
+counted_first e m n some room C =
+    let z : length (take n e) ≡ n = simp length-take (omega arith) in
+    counted_ranks (rank (take n e)) (rank e) m n _ _ some (λ x h. get_or-take n e x 0 h) (rw z at C)
 
 -- any two results that the contract allows for one entry are equal
 pub read_unique : (t : List ℕ) (N m n : ℕ) (r e f u v : List ℕ) (s w : ℕ) → ReadBy t N m n r e u s → ReadBy t N m n r f v w → (e ≡ f) × (u ≡ v) × (s ≡ w)

@@ -61,12 +61,6 @@ pub record Marked (q k : ℕ) (r e : List ℕ) : Type 0 where
   pub raised : rank e q ≡ max (rank r q) k
   pub other : (x : ℕ) → (x ≡ q → ⊥) → rank e x ≡ rank r x
 
--- the first n ranks are k, and nothing else has changed
-pub record Filled (n k : ℕ) (r e : List ℕ) : Type 0 where
-  pub same : length e ≡ length r
-  pub filled : (x : ℕ) → x < n → rank e x ≡ k
-  pub other : (x : ℕ) → n ≤ x → rank e x ≡ rank r x
-
 -- both ends of n samples have rank m and those between rank 0, and nothing else has changed
 pub record Started (m n : ℕ) (r e : List ℕ) : Type 0 where
   pub same : length e ≡ length r

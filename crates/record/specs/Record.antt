@@ -1,8 +1,7 @@
 -- The house record: 16 bytes, low byte first; 0-1 across, 2-3 up, 4-7 pause counter, 8 rank, 9-10 boot, 11 edition, 12-15 spare. Assumes nothing.
-use Rattle.std.specs.Prelude.{ℕ, ◌+◌, Bool, ◌&&◌, cond, List, leb, eqb, ℤ, pos, length, get_or}
+use Rattle.std.specs.Prelude.{ℕ, ◌+◌, Bool, ◌&&◌, cond, List, leb, eqb, ℤ, pos, length, get_or, Ok, Err}
 use Rattle.refusal.specs.declared.Refusal.TheVariants.{Coordinate, Length, Record}
-use Rattle.refusal.specs.declared.Outcome.{Outcome}
-use Rattle.refusal.specs.declared.Outcome.TheVariants.{Done, Refused}
+use Rattle.refusal.specs.Number.{Outcome}
 use Rattle.refusal.specs.Check.{need, unless, and_then, all_below}
 use Rattle.words.specs.Word.{word, long, signed_at}
 use Rattle.sample.specs.Coordinate.{coordinate_ok}
@@ -47,13 +46,13 @@ record_outcome s p =
 
 -- one record alone: 10, then 6, then 11
 unfoldable pub decode_outcome : List ℕ → Outcome
-decode_outcome s = need (eqb (length s) 16) (Refused Length) (record_outcome s 0)
+decode_outcome s = need (eqb (length s) 16) (Err Length) (record_outcome s 0)
 
 -- what the record at place p says where nothing was refused, else zeros
 abbrev pub decoded_by : Outcome → List ℕ → ℕ → Decoded
-decoded_by Done s p =
-    record { outcome = Done; across = across s p; up = up s p; pause = counter s p; rank = rank s p; boot = boot s p; edition = edition s p }
-decoded_by (Refused r) s p = record { outcome = Refused r; across = pos 0; up = pos 0; pause = 0; rank = 0; boot = 0; edition = 0 }
+decoded_by (Ok _) s p =
+    record { outcome = Ok tt; across = across s p; up = up s p; pause = counter s p; rank = rank s p; boot = boot s p; edition = edition s p }
+decoded_by (Err r) s p = record { outcome = Err r; across = pos 0; up = pos 0; pause = 0; rank = 0; boot = 0; edition = 0 }
 
 unfoldable pub decode_of : List ℕ → Decoded
 decode_of s = decoded_by (decode_outcome s) s 0

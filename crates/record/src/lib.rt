@@ -2,11 +2,9 @@
 #![tactic(auto)]
 
 ghost use Rattle.std.specs.Prelude.{◌≡◌, ◌+◌, ◌≤◌, ◌<◌, length};
-ghost use Rattle.sample.specs.Coordinate.{coordinate_ok};
-ghost use Rattle.words.specs.Word.{signed_at};
 ghost use Rattle.record.specs.Record.{counter, edition_ok, spare_ok, fields_ok, record_outcome, decode_outcome, decode_of};
 
-use refusal::{Outcome, Refusal};
+use refusal::{Outcome, Refusal, unless};
 use sample::coordinate_ok;
 use words::{long_at, signed_at, word_at};
 
@@ -46,15 +44,8 @@ pub struct Decoded {
     pub edition: u8,
 }
 
-// Whether the coordinate at place p is in range.
-fn in_range_at(s: &[u8], p: usize) -> bool
-    requires { p + 1 < length s.now }
-    ensures { result ≡ coordinate_ok (signed_at s.now p) }
-{
-    coordinate_ok(signed_at(s, p))
-}
-
 // The pause counter of the record at place p.
+#[tactic(auto, unfolding(crate::specs::Record::counter))]
 pub fn counter_at(s: &[u8], p: usize) -> u32
     requires { p + 16 ≤ length s.now }
     ensures { result ≡ counter s.now p }
@@ -63,99 +54,73 @@ pub fn counter_at(s: &[u8], p: usize) -> u32
 }
 
 // Whether the edition of the record at place p is 0, without a boot number, or 1.
+#[tactic(auto, unfolding(crate::specs::Record::edition_ok))]
 fn edition_ok(s: &[u8], p: usize) -> bool
     requires { p + 16 ≤ length s.now }
     ensures { result ≡ edition_ok s.now p }
 {
-    let edition = s[p + EDITION];
-    if edition == 0 {
-        return word_at(s, p + BOOT) == 0;
+    match s[p + EDITION] {
+        0 => word_at(s, p + BOOT) == 0,
+        edition => edition == WITH_BOOT,
     }
-    edition == WITH_BOOT
 }
 
 // Whether the spare bytes of the record at place p are zero.
+#[tactic(auto, unfolding(crate::specs::Record::spare_ok))]
 fn spare_ok(s: &[u8], p: usize) -> bool
     requires { p + 16 ≤ length s.now }
     ensures { result ≡ spare_ok s.now p }
 {
-    let mut k = 0;
-    while k < SPARE_BYTES {
-        if s[p + SPARE + k] != 0 {
-            return false;
-        }
-        k += 1;
-    }
-    true
+    let spare = p + SPARE;
+    s[spare..spare + SPARE_BYTES].iter().all(|b| *b == 0)
 }
 
 // Whether the record at place p is in order, its coordinates apart.
+#[tactic(auto, unfolding(crate::specs::Record::fields_ok))]
 fn fields_ok(s: &[u8], p: usize) -> bool
     requires { p + 16 ≤ length s.now }
     ensures { result ≡ fields_ok s.now p }
 {
-    if RANK_MOST < s[p + RANK] {
-        return false;
-    }
-    if !edition_ok(s, p) {
-        return false;
-    }
-    spare_ok(s, p)
+    s[p + RANK] <= RANK_MOST && edition_ok(s, p) && spare_ok(s, p)
 }
 
 // The record at place p: 6, then 11.
+#[tactic(auto, unfolding(crate::specs::Record::record_outcome))]
 pub fn record_outcome(s: &[u8], p: usize) -> Outcome
     requires { p + 16 ≤ length s.now }
     ensures { result ≡ record_outcome s.now p }
 {
-    if !in_range_at(s, p) {
-        return Outcome::Refused(Refusal::Coordinate);
-    }
-    if !in_range_at(s, p + UP) {
-        return Outcome::Refused(Refusal::Coordinate);
-    }
-    if !fields_ok(s, p) {
-        return Outcome::Refused(Refusal::Record);
-    }
-    Outcome::Done
+    let placed = coordinate_ok(signed_at(s, p)) && coordinate_ok(signed_at(s, p + UP));
+    unless(placed, Refusal::Coordinate)?;
+    unless(fields_ok(s, p), Refusal::Record)
 }
 
 // One record alone: 10, then 6 and 11.
+#[tactic(auto, unfolding(crate::specs::Record::decode_outcome))]
 fn decode_outcome(s: &[u8]) -> Outcome
     ensures { result ≡ decode_outcome s.now }
 {
-    if s.len() != RECORD_BYTES {
-        return Outcome::Refused(Refusal::Length);
-    }
+    unless(s.len() == RECORD_BYTES, Refusal::Length)?;
     record_outcome(s, 0)
 }
 
 // One house record.
+#[tactic(auto, using(crate::proofs::Record::decode_length), unfolding(crate::specs::Record::decode_of))]
 pub fn decode(record: &[u8]) -> Decoded
     ensures value { result ≡ decode_of «record».now }
-    ensures record_value { «record».now ≡ «record».now }
 {
-    let o = decode_outcome(record);
-    match o {
-        Outcome::Done => {
-            let across = signed_at(record, 0);
-            let up = signed_at(record, UP);
-            let pause = counter_at(record, 0);
-            let rank = record[RANK];
-            let boot = word_at(record, BOOT);
-            let edition = record[EDITION];
-            Decoded {
-                outcome: Outcome::Done,
-                across,
-                up,
-                pause,
-                rank,
-                boot,
-                edition,
-            }
-        }
-        Outcome::Refused(r) => Decoded {
-            outcome: Outcome::Refused(r),
+    match decode_outcome(record) {
+        Ok(()) => Decoded {
+            outcome: Ok(()),
+            across: signed_at(record, 0),
+            up: signed_at(record, UP),
+            pause: counter_at(record, 0),
+            rank: record[RANK],
+            boot: word_at(record, BOOT),
+            edition: record[EDITION],
+        },
+        Err(why) => Decoded {
+            outcome: Err(why),
             across: 0,
             up: 0,
             pause: 0,

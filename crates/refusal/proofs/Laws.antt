@@ -1,14 +1,19 @@
 -- Laws of the tests: of `&&`, of `all_below`, of a row of tests. Assumes nothing.
-use mathlib.Core.Path.{◌≡◌, refl, sym, subst, ◌∙◌}
+use mathlib.Core.Path.{◌≡◌, refl, sym, ap, subst, ◌∙◌}
 use mathlib.Core.Logic.{◌⊎◌, inl, inr, ⊎_elim}
 use mathlib.Core.Bool.{Bool, true, false, ◌&&◌, true≢false}
+use mathlib.Core.List.{List}
 use Prim.Native.Nat.{ℕ, zero, suc, ◌+◌, ◌≤◌, ◌<◌, zero-le}
 use native.Mathlib.Nat.{not-suc-le-zero, le_of_suc-le-suc, eq-or-lt_of_le}
+use native.Mathlib.Numerals.{add-one}
 use native.Mathlib.Omega.{arith}
+use lib.ListN.{length, get_or, take}
 use borrow.Author.Count.{below_more}
+use Rattle.std.specs.List.{list_all}
+use Rattle.std.proofs.lemmas.List.Folds.{list_all_more}
 use Rattle.refusal.specs.declared.Refusal.{Refusal}
-use Rattle.refusal.specs.declared.Outcome.{Outcome}
-use Rattle.refusal.specs.declared.Outcome.TheVariants.{Done, Refused}
+use Rattle.refusal.specs.Number.{Outcome}
+use Rattle.std.specs.Prelude.{Ok, Err}
 use Rattle.refusal.specs.Check.{need, unless, and_then, all_below}
 
 pub and_yes : {a b : Bool} → a ≡ true → b ≡ true → a && b ≡ true
@@ -93,23 +98,29 @@ unfolding all_below
 all_same zero f g h = refl
 all_same (suc n) f g h = rw (all_same n f g (λ k l. h k (omega arith)), h n (omega arith))
 
--- a row of tests ends in Done only where each test holds
-pub need_done : (b : Bool) (r : Refusal) (o : Outcome) → need b (Refused r) o ≡ Done → (b ≡ true) × (o ≡ Done)
+-- the tests of the first n values of a list
+pub all_taken : {X : Type 0} (p : X → Bool) (d : X) (xs : List X) (n : ℕ) → n ≤ length xs → list_all p (take n xs) ≡ all_below n (λ k. p (get_or xs k d))
+unfolding all_below
+all_taken p d xs zero h = refl
+all_taken p d xs (suc n) h = ap (λ (m : ℕ). list_all p (take m xs)) (sym (add-one n)) ∙ list_all_more p xs n d (omega arith) ∙ rw (all_taken p d xs n (omega arith)) refl
+
+-- a row of tests is passed only where each test holds
+pub need_done : (b : Bool) (r : Refusal) (o : Outcome) → need b (Err r) o ≡ Ok tt → (b ≡ true) × (o ≡ Ok tt)
 need_done true r o h = (refl, h)
 need_done false r o h = let z : ◌≡◌ {A = ℕ} 0 1 = cc in let f : ⊥ = omega arith in absurd f
 
-pub unless_done : (b : Bool) (r : Refusal) → unless b r ≡ Done → b ≡ true
-unless_done b r h = (need_done b r Done h).0
+pub unless_done : (b : Bool) (r : Refusal) → unless b r ≡ Ok tt → b ≡ true
+unless_done b r h = (need_done b r (Ok tt) h).0
 
 -- and in the refusal of a test exactly when that test fails and those before it hold
-pub need_refuses : (b : Bool) (r q : Refusal) (o : Outcome) → need b (Refused r) o ≡ Refused q → ((b ≡ false) × (r ≡ q)) ⊎ ((b ≡ true) × (o ≡ Refused q))
+pub need_refuses : (b : Bool) (r q : Refusal) (o : Outcome) → need b (Err r) o ≡ Err q → ((b ≡ false) × (r ≡ q)) ⊎ ((b ≡ true) × (o ≡ Err q))
 need_refuses true r q o h = inr (refl, h)
 need_refuses false r q o h = inl (refl, cc)
 
-pub then_done : (p o : Outcome) → and_then p o ≡ Done → (p ≡ Done) × (o ≡ Done)
-then_done Done o h = (refl, h)
-then_done (Refused r) o h = let z : ◌≡◌ {A = ℕ} 0 1 = cc in let f : ⊥ = omega arith in absurd f
+pub then_done : (p o : Outcome) → and_then p o ≡ Ok tt → (p ≡ Ok tt) × (o ≡ Ok tt)
+then_done (Ok _) o h = (refl, h)
+then_done (Err r) o h = let z : ◌≡◌ {A = ℕ} 0 1 = cc in let f : ⊥ = omega arith in absurd f
 
 -- a first outcome that is a refusal is the answer
-pub then_refused : {p q : Outcome} {r : Refusal} (o : Outcome) → q ≡ p → q ≡ Refused r → q ≡ and_then p o
+pub then_refused : {p q : Outcome} {r : Refusal} (o : Outcome) → q ≡ p → q ≡ Err r → q ≡ and_then p o
 then_refused o e h = h ∙ simp (sym e ∙ h)

@@ -8,9 +8,8 @@ use native.Mathlib.Omega.{arith}
 use lib.ListN.{get_or}
 use Rattle.refusal.specs.declared.Refusal.{Refusal}
 use Rattle.refusal.specs.declared.Refusal.TheVariants.{Setup, Tolerance, Buffer, Held, Stored, Coordinate, Full, Missing, Few, Length, Record}
-use Rattle.refusal.specs.declared.Outcome.{Outcome}
-use Rattle.refusal.specs.declared.Outcome.TheVariants.{Done, Refused}
-use Rattle.refusal.specs.Number.{number, code}
+use Rattle.refusal.specs.Number.{Outcome, number, code}
+use Rattle.std.specs.Prelude.{Ok, Err}
 use Rattle.refusal.specs.Check.{need, unless, and_then, Decides, First}
 use Rattle.refusal.proofs.Plain.{not_refuted}
 
@@ -51,20 +50,20 @@ pub number_one : (r q : Refusal) → number r ≡ number q → r ≡ q
 number_one r q h = sym (one_number r) ∙ ap the_one h ∙ one_number q
 
 pub code_one : (o p : Outcome) → code o ≡ code p → o ≡ p
-code_one Done Done h = refl
-code_one Done (Refused q) h = absurd (numbered q (sym h))
-code_one (Refused r) Done h = absurd (numbered r h)
-code_one (Refused r) (Refused q) h = ap Refused (number_one r q h)
+code_one (Ok _) (Ok _) h = refl
+code_one (Ok _) (Err q) h = absurd (numbered q (sym h))
+code_one (Err r) (Ok _) h = absurd (numbered r h)
+code_one (Err r) (Err q) h = ap Err (number_one r q h)
 
 -- a call is carried out or refused
-pub by_outcome : {A : Type 0} (o : Outcome) → (o ≡ Done → A) → ((r : Refusal) → o ≡ Refused r → A) → A
-by_outcome Done d f = d refl
-by_outcome (Refused r) d f = f r refl
+pub by_outcome : {A : Type 0} (o : Outcome) → (o ≡ Ok tt → A) → ((r : Refusal) → o ≡ Err r → A) → A
+by_outcome (Ok _) d f = d refl
+by_outcome (Err r) d f = f r refl
 
 -- ---- one row
 -- a row of tests shows the row of statements, by what a passing and a failing test say of P
 pub first_row : {P : Type 0} (b : Bool) (r : Refusal) (o : Outcome) (rest : ℕ → Type 0)
-    → (b ≡ true → P → ⊥) → (b ≡ false → P) → rest (code o) → First (number r) P rest (code (need b (Refused r) o))
+    → (b ≡ true → P → ⊥) → (b ≡ false → P) → rest (code o) → First (number r) P rest (code (need b (Err r) o))
 first_row true r o rest passed failed h = inr (passed refl, h)
 first_row false r o rest passed failed h = inl (failed refl, refl)
 
@@ -112,7 +111,7 @@ first_unless f more h = first_same (λ n q. n (f.1 q), λ n p. n (f.0 p)) more h
 
 -- ---- rows one after another: the tests of o show the statements of S, whatever follows them
 pub record Row (o : Outcome) (S : (ℕ → Type 0) → ℕ → Type 0) : Type 1 where
-  pub gives : (rest : ℕ → Type 0) (q : Outcome) → (o ≡ Done → rest (code q)) → S rest (code (and_then o q))
+  pub gives : (rest : ℕ → Type 0) (q : Outcome) → (o ≡ Ok tt → rest (code q)) → S rest (code (and_then o q))
 
 -- one test, by what it says of P where it passes and where it fails
 pub test_row : {P : Type 0} (b : Bool) (r : Refusal) → (b ≡ true → P → ⊥) → (b ≡ false → P) → Row (unless b r) (λ rest. First (number r) P rest)
@@ -124,14 +123,14 @@ pub unless_row : {P : Type 0} (b : Bool) (r : Refusal) → Decides P b → Row (
 unless_row b r d = test_row b r (λ e n. n (d.right e)) d.wrong
 
 -- and then another row, which may use that the first was passed
-pub then_row : {S T : (ℕ → Type 0) → ℕ → Type 0} (o p : Outcome) → Row o S → (o ≡ Done → Row p T) → Row (and_then o p) (λ rest. S (T rest))
-then_row {T = T} Done p R Q = record { gives = λ rest q h. R.gives (T rest) (and_then p q) (λ e. (Q e).gives rest q h) }
-then_row {T = T} (Refused r) p R Q = record { gives = λ rest q h. R.gives (T rest) (and_then p q) (λ e. absurd (numbered r (ap code e))) }
+pub then_row : {S T : (ℕ → Type 0) → ℕ → Type 0} (o p : Outcome) → Row o S → (o ≡ Ok tt → Row p T) → Row (and_then o p) (λ rest. S (T rest))
+then_row {T = T} (Ok tt) p R Q = record { gives = λ rest q h. R.gives (T rest) (and_then p q) (λ e. (Q e).gives rest q h) }
+then_row {T = T} (Err r) p R Q = record { gives = λ rest q h. R.gives (T rest) (and_then p q) (λ e. absurd (numbered r (ap code e))) }
 
 -- a whole row gives its number, and 0 where every test passes
 pub row_number : (o : Outcome) (S : (ℕ → Type 0) → ℕ → Type 0) → Row o S → S (λ k. k ≡ 0) (code o)
-row_number Done S R = R.gives (λ k. k ≡ 0) Done (λ e. refl)
-row_number (Refused r) S R = R.gives (λ k. k ≡ 0) Done (λ e. refl)
+row_number (Ok _) S R = R.gives (λ k. k ≡ 0) (Ok tt) (λ e. refl)
+row_number (Err r) S R = R.gives (λ k. k ≡ 0) (Ok tt) (λ e. refl)
 
 -- ---- exactly when a number is given
 -- 0, or a number above n

@@ -1,9 +1,8 @@
 -- The one form of every check. Code is proved against a row of tests, `need ok stop rest`: where the test fails the answer is `stop`, else the rest of the
 -- row decides, so the lowest number that applies is given. A contract shows the same row in plain statements, `First num P rest`. Assumes nothing.
-use Rattle.std.specs.Prelude.{ℕ, zero, suc, ◌≡◌, ◌⊎◌, Bool, true, false, ◌&&◌, leb}
+use Rattle.std.specs.Prelude.{ℕ, zero, suc, ◌≡◌, ◌⊎◌, Bool, true, false, ◌&&◌, leb, Ok, Err}
 use Rattle.refusal.specs.declared.Refusal.{Refusal}
-use Rattle.refusal.specs.declared.Outcome.{Outcome}
-use Rattle.refusal.specs.declared.Outcome.TheVariants.{Done, Refused}
+use Rattle.refusal.specs.Number.{Outcome}
 
 abbrev pub need : {A : Type 0} → Bool → A → A → A
 need true stop rest = rest
@@ -11,12 +10,12 @@ need false stop rest = stop
 
 -- one test alone
 abbrev pub unless : Bool → Refusal → Outcome
-unless ok why = need ok (Refused why) Done
+unless ok why = need ok (Err why) (Ok tt)
 
 -- a first outcome, and where it is no refusal the next
 abbrev pub and_then : Outcome → Outcome → Outcome
-and_then Done next = next
-and_then (Refused r) next = Refused r
+and_then (Ok _) next = next
+and_then (Err r) next = Err r
 
 -- f holds of every number below n
 unfoldable pub all_below : ℕ → (ℕ → Bool) → Bool

@@ -1,9 +1,7 @@
 -- The paper's number of each refusal. Assumes nothing.
-use Rattle.std.specs.Prelude.{ℕ}
+use Rattle.std.specs.Prelude.{ℕ, Result, Ok, Err}
 use Rattle.refusal.specs.declared.Refusal.{Refusal}
 use Rattle.refusal.specs.declared.Refusal.TheVariants.{Setup, Tolerance, Buffer, Held, Stored, Coordinate, Full, Missing, Few, Length, Record}
-use Rattle.refusal.specs.declared.Outcome.{Outcome}
-use Rattle.refusal.specs.declared.Outcome.TheVariants.{Done, Refused}
 
 abbrev pub number : Refusal → ℕ
 number Setup = 1
@@ -18,7 +16,11 @@ number Few = 9
 number Length = 10
 number Record = 11
 
+-- a call or a check: carried out, or refused
+abbrev pub Outcome : Type 0
+Outcome = Result (Unit {0}) Refusal
+
 -- 0 where the call was carried out
 abbrev pub code : Outcome → ℕ
-code Done = 0
-code (Refused r) = number r
+code (Ok done) = 0
+code (Err why) = number why

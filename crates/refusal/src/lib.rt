@@ -2,29 +2,35 @@
 #![tactic(auto)]
 
 ghost use Rattle.std.specs.Prelude.{◌≡◌};
-ghost use Rattle.refusal.specs.Number.{code};
-ghost use Rattle.refusal.specs.Check.{unless as unless_of, and_then};
+ghost use Rattle.refusal.specs.Number.{number as number_of, code};
+ghost use Rattle.refusal.specs.Check.{unless as unless_of};
 
-// In the order of the paper's numbers 1 to 11.
-#[derive(Clone, Copy)]
+// Each with the paper's number.
+#[derive(Clone, Copy, PartialEq, Eq)]
 pub enum Refusal {
-    Setup,
-    Tolerance,
-    Buffer,
-    Held,
-    Stored,
-    Coordinate,
-    Full,
-    Missing,
-    Few,
-    Length,
-    Record,
+    Setup = 1,
+    Tolerance = 2,
+    Buffer = 3,
+    Held = 4,
+    Stored = 5,
+    Coordinate = 6,
+    Full = 7,
+    Missing = 8,
+    Few = 9,
+    Length = 10,
+    Record = 11,
 }
 
-#[derive(Clone, Copy)]
-pub enum Outcome {
-    Done,
-    Refused(Refusal),
+// A call or a check: carried out, or refused.
+pub type Outcome = Result<(), Refusal>;
+
+impl Refusal {
+    // The paper's number.
+    pub fn number(self) -> u8
+        ensures { result ≡ number_of self }
+    {
+        self as u8
+    }
 }
 
 // The paper's number of a refusal, 0 where the call was carried out.
@@ -32,20 +38,8 @@ pub fn number(o: Outcome) -> u8
     ensures { result ≡ code o }
 {
     match o {
-        Outcome::Done => 0,
-        Outcome::Refused(r) => match r {
-            Refusal::Setup => 1,
-            Refusal::Tolerance => 2,
-            Refusal::Buffer => 3,
-            Refusal::Held => 4,
-            Refusal::Stored => 5,
-            Refusal::Coordinate => 6,
-            Refusal::Full => 7,
-            Refusal::Missing => 8,
-            Refusal::Few => 9,
-            Refusal::Length => 10,
-            Refusal::Record => 11,
-        },
+        Ok(()) => 0,
+        Err(why) => why.number(),
     }
 }
 
@@ -53,19 +47,5 @@ pub fn number(o: Outcome) -> u8
 pub fn unless(ok: bool, why: Refusal) -> Outcome
     ensures { result ≡ unless_of ok why }
 {
-    if ok {
-        Outcome::Done
-    } else {
-        Outcome::Refused(why)
-    }
-}
-
-// A test or a row after another: the first refusal of the two.
-pub fn and_then(first: Outcome, rest: Outcome) -> Outcome
-    ensures { result ≡ and_then first rest }
-{
-    let Outcome::Done = first else {
-        return first;
-    };
-    rest
+    if ok { Ok(()) } else { Err(why) }
 }

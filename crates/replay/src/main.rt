@@ -2,15 +2,17 @@
 // bytes (README.md has the format).
 #![tactic(auto)]
 
-mod calls;
 mod state;
 
 use script::page::Page;
 use std::io;
 
+// The room for cells.
+const CELLS: usize = 1_048_576;
+
 fn main(rt: HostRuntime) -> io::Result<()> {
     let steps = script::digest::steps();
-    let mut cells = [0u16; 1048576];
+    let mut cells = [0; CELLS];
     let mut page = Page::new(rt.stdout());
     state::run(&mut rt.stdin(), &mut page, &steps, &mut cells)
 }

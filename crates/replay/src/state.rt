@@ -1,118 +1,145 @@
-// What replay keeps from one command to the next, and the commands one after the other.
-use crate::calls;
-use crate::calls::After;
-use script::command::Command;
-use script::lent::{Lengths, Lent};
-use script::lists::Lists;
-use script::{command, lent, lists, part, say};
+// What replay keeps from one command to the next, and what each command does to it.
+use answers::Answer;
+use script::buffers::{Buffers, Samples};
+use script::command::{Command, Operation, Unknown};
+use script::say;
 use std::io;
 use std::io::{Read, Write};
 use trace::Trace;
 
-#[derive(Clone, Copy)]
+#[derive(Drop)]
 struct State {
     trace: Trace,
-    lent: Lent,
-    lists: Lists,
+    buffers: Buffers,
+    lists: Samples,
 }
 
-// The state before the first command.
-fn fresh() -> State {
-    let trace = Trace {
-        levels: 0,
-        capacity: 0,
-        held: 0,
-        tolerances: [0; 16],
-    };
-    let lent = lent::nothing();
-    let lists = lists::empty();
-    State { trace, lent, lists }
-}
+impl State {
+    // The state before the first command.
+    fn new() -> State {
+        State {
+            trace: Trace {
+                levels: 0,
+                capacity: 0,
+                held: 0,
+                tolerances: [0; 16],
+            },
+            buffers: Buffers::nothing(),
+            lists: Samples::empty(),
+        }
+    }
 
-// The state that put and upload leave.
-fn kept(after: After, n: Lengths, r: [u8; part::ROOM], lists: Lists) -> State {
-    let trace = after.trace;
-    let x = after.x;
-    let y = after.y;
-    let m = after.m;
-    let lent = lent::of(n, x, y, m, r);
-    State { trace, lent, lists }
-}
+    // setup m N n t1..t16: forge the trace.
+    fn setup(&mut self, command: &Command) -> Result<(), Unknown> {
+        let tolerances = command.tolerances(4)?;
+        self.trace = Trace {
+            levels: command.number(1)?,
+            capacity: command.number(2)?,
+            held: command.number(3)?,
+            tolerances,
+        };
+        Ok(())
+    }
 
-// A call over what is lent, where the operation is one.
-fn give<W: Write>(
-    out: &mut W,
-    command: Command,
-    state: State,
-    cells: &mut [u16],
-) -> io::Result<State> {
-    let trace = state.trace;
-    let lent = state.lent;
-    let lists = state.lists;
-    let xs = lent.xs;
-    let ys = lent.ys;
-    let marks = lent.marks;
-    let ranks = lent.ranks;
-    let x = xs.values;
-    let y = ys.values;
-    let m = marks.values;
-    let r = ranks.values;
-    let n = lent::each_length(lent, cells.len());
-    let operation = command.word(0);
-    if operation == 6 {
-        calls::ask(out, command, trace, n, x, y, m)?;
-        return Ok(state);
+    // start m N t1..t16
+    fn start(&mut self, command: &Command) -> Result<Answer, Unknown> {
+        let tolerances = command.tolerances(3)?;
+        let started = Trace::start(command.number(1)?, command.number(2)?, tolerances);
+        self.trace = started.trace;
+        Ok(Answer::Started(started))
     }
-    if operation == 7 {
-        let r = calls::read(out, trace, n, x, y, m, r, cells)?;
-        let lent = lent::of(n, x, y, m, r);
-        return Ok(State { trace, lent, lists });
-    }
-    if operation == 9 {
-        let after = calls::put(out, command, trace, n, x, y, m, cells)?;
-        return Ok(kept(after, n, r, lists));
-    }
-    if operation == 12 {
-        let after = calls::upload(out, n, x, y, m, trace, lists, cells)?;
-        return Ok(kept(after, n, r, lists));
-    }
-    Ok(state)
-}
 
-// The state after a command: each part changed by the operations that are its own, and then by a call over what is lent.
-fn obey<W: Write>(
-    out: &mut W,
-    command: Command,
-    state: State,
-    cells: &mut [u16],
-) -> io::Result<State> {
-    let trace = state.trace;
-    let lent = state.lent;
-    let lists = state.lists;
-    let trace = calls::alone(out, command, trace)?;
-    let lent = lent::after(out, command, lent, cells)?;
-    let lists = lists::after(out, command, lists)?;
-    give(out, command, State { trace, lent, lists }, cells)
-}
+    // ask i j k
+    fn ask(&self, command: &Command) -> Result<Answer, Unknown> {
+        let i = command.number(1)?;
+        let j = command.number(2)?;
+        let k = command.number(3)?;
+        let samples = self.buffers.samples.lent();
+        Ok(Answer::Asked(self.trace.ask(samples, k, i, j)))
+    }
 
-// Carry a command out, and end its line.
-fn turn<W: Write>(
-    out: &mut W,
-    command: Command,
-    steps: &[u32; 256],
-    state: State,
-    cells: &mut [u16],
-) -> io::Result<State> {
-    if !calls::is_good(command) {
-        say::unknown(out)?;
-        return Ok(state);
+    // read
+    fn read(&mut self, table: &[u16]) -> Answer {
+        let cells = self.buffers.cells(table);
+        let samples = self.buffers.samples.lent();
+        let ranks = self.buffers.ranks.used_mut();
+        Answer::Levels(self.trace.read(samples, cells, ranks))
     }
-    let next = obey(out, command, state, cells)?;
-    if calls::has_digest(command.word(0)) {
-        let lent = next.lent;
-        lent::say_digest(out, steps, lent, cells)?;
+
+    // put v x y mark
+    fn put(&mut self, command: &Command, table: &mut [u16]) -> Result<Answer, Unknown> {
+        let v = command.number(1)?;
+        let sample = command.sample(2)?;
+        let cells = self.buffers.cells_mut(table);
+        let samples = &mut self.buffers.samples;
+        let changed = self.trace.put(
+            samples.across.used_mut(),
+            samples.up.used_mut(),
+            samples.marks.used_mut(),
+            cells,
+            v,
+            sample,
+        );
+        self.trace = changed.trace;
+        Ok(Answer::Changed(changed))
     }
-    Ok(next)
+
+    // upload
+    fn upload(&mut self, table: &mut [u16]) -> Answer {
+        let cells = self.buffers.cells_mut(table);
+        let samples = &mut self.buffers.samples;
+        let uploaded = self.trace.upload(
+            samples.across.used_mut(),
+            samples.up.used_mut(),
+            samples.marks.used_mut(),
+            cells,
+            self.lists.lent(),
+        );
+        self.trace = uploaded.trace;
+        Answer::Uploaded(uploaded)
+    }
+
+    // Carry a command out; what its call answered, where it makes one. A command that is none changes nothing.
+    fn obey(&mut self, command: &Command, table: &mut [u16]) -> Result<Option<Answer>, Unknown> {
+        match command.operation()? {
+            Operation::Bufs => self.buffers.bufs(command, table)?,
+            Operation::Setup => self.setup(command)?,
+            Operation::Poke => self.buffers.poke(command, table)?,
+            Operation::Start => return self.start(command).map(Some),
+            Operation::Ask => return self.ask(command).map(Some),
+            Operation::Read => return Ok(Some(self.read(table))),
+            Operation::Decode => {
+                return Ok(Some(Answer::Decoded(record::decode(command.record()))));
+            }
+            Operation::Put => return self.put(command, table).map(Some),
+            Operation::List => self.lists.list(command)?,
+            Operation::Empty => self.lists = Samples::empty(),
+            Operation::Upload => return Ok(Some(self.upload(table))),
+        }
+        Ok(None)
+    }
+
+    // Carry a command out, and write its line.
+    fn turn<W: Write>(
+        &mut self,
+        command: &Command,
+        out: &mut W,
+        steps: &[u32; 256],
+        table: &mut [u16],
+    ) -> io::Result<()> {
+        match self.obey(command, table) {
+            Err(Unknown) => say::unknown(out),
+            Ok(None) => Ok(()),
+            Ok(Some(answer)) => {
+                write!(out, "{answer}")?;
+                if answer.has_digest() {
+                    let digest = self.buffers.digest(steps, table);
+                    write!(out, " {digest}")?;
+                }
+                say::end(out)
+            }
+        }
+    }
 }
 
 // Carry out the commands of the input. A proved loop has to end, so it counts up to a number that no script reaches.
@@ -120,15 +147,14 @@ pub(crate) fn run<R: Read, W: Write>(
     input: &mut R,
     out: &mut W,
     steps: &[u32; 256],
-    cells: &mut [u16],
+    table: &mut [u16],
 ) -> io::Result<()> {
-    let mut bytes = [0u8; command::LENGTH];
-    let mut state = fresh();
+    let mut state = State::new();
     for _ in 0..u64::MAX {
-        if !command::next(input, out, &mut bytes)? {
+        let Some(command) = Command::read(input, out)? else {
             break;
-        }
-        state = turn(out, Command { bytes }, steps, state, cells)?;
+        };
+        state.turn(&command, out, steps, table)?;
     }
     Ok(())
 }

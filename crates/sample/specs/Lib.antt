@@ -1,4 +1,5 @@
 pub mod Coordinate
+pub mod Lent
 pub mod Mark
 pub mod Samples
 pub mod Sweep

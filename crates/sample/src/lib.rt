@@ -4,7 +4,8 @@
 ghost use Rattle.std.specs.Prelude.{◌≡◌, ◌≤◌, ◌<◌, length};
 ghost use Rattle.sample.specs.Coordinate.{coordinate_ok, coordinates_ok};
 ghost use Rattle.sample.specs.Mark.{mark_ok, marks_ok};
-ghost use Rattle.sample.specs.Samples.{samples, sample_at};
+ghost use Rattle.sample.specs.Lent.{lent};
+ghost use Rattle.sample.specs.Samples.{sample_at};
 ghost use Rattle.sample.specs.Sweep.{FirstMarked, LastMarked};
 ghost use Rattle.sample.specs.Valid.{sample_ok, samples_ok};
 
@@ -25,14 +26,11 @@ pub struct Sample {
 }
 
 // Whether a coordinate is in range.
+#[tactic(auto, unfolding(crate::specs::Coordinate::coordinate_ok))]
 pub fn coordinate_ok(x: i16) -> bool
     ensures { result ≡ coordinate_ok x }
 {
-    if COORDINATE_LEAST <= x {
-        x <= COORDINATE_MOST
-    } else {
-        false
-    }
+    (COORDINATE_LEAST..=COORDINATE_MOST).contains(&x)
 }
 
 // Whether the first n coordinates of a buffer are in range.
@@ -40,15 +38,7 @@ pub fn coordinates_ok(s: &[i16], n: usize) -> bool
     requires { n ≤ length s.now }
     ensures { result ≡ coordinates_ok s.now n }
 {
-    let mut k = 0;
-    while k < n {
-        let x = s[k];
-        if !coordinate_ok(x) {
-            return false;
-        }
-        k += 1;
-    }
-    true
+    s[..n].iter().all(|x| coordinate_ok(*x))
 }
 
 // Whether a mark is in range.
@@ -63,55 +53,45 @@ pub fn marks_ok(s: &[u8], n: usize) -> bool
     requires { n ≤ length s.now }
     ensures { result ≡ marks_ok s.now n }
 {
-    let mut k = 0;
-    while k < n {
-        if !mark_ok(s[k]) {
-            return false;
-        }
-        k += 1;
-    }
-    true
+    s[..n].iter().all(|mark| mark_ok(*mark))
 }
 
 // Whether the coordinates and the mark of a sample are in range.
+#[tactic(auto, unfolding(crate::specs::Valid::sample_ok))]
 pub fn sample_ok(sample: Sample) -> bool
     ensures { result ≡ sample_ok sample }
 {
-    if !coordinate_ok(sample.across) {
-        return false;
-    }
-    if !coordinate_ok(sample.up) {
-        return false;
-    }
-    mark_ok(sample.mark)
+    coordinate_ok(sample.across) && coordinate_ok(sample.up) && mark_ok(sample.mark)
 }
 
-// Whether those of the first n samples are.
-pub fn samples_ok(xs: &[i16], ys: &[i16], marks: &[u8], n: usize) -> bool
-    requires { (n ≤ length xs.now) × (n ≤ length ys.now) × (n ≤ length marks.now) }
-    ensures { result ≡ samples_ok (samples xs.now ys.now marks.now) n }
-{
-    if !coordinates_ok(xs, n) {
-        return false;
-    }
-    if !coordinates_ok(ys, n) {
-        return false;
-    }
-    marks_ok(marks, n)
+// The samples that are lent, in three buffers.
+#[derive(Clone, Copy)]
+pub struct Lent<'a> {
+    pub across: &'a [i16],
+    pub up: &'a [i16],
+    pub marks: &'a [u8],
 }
 
-// Sample q of buffers that have it.
-pub fn sample_at(xs: &[i16], ys: &[i16], marks: &[u8], q: usize) -> Sample
-    requires { (q < length xs.now) × (q < length ys.now) × (q < length marks.now) }
-    ensures { result ≡ sample_at (samples xs.now ys.now marks.now) q }
-{
-    let x = xs[q];
-    let y = ys[q];
-    let mark = marks[q];
-    Sample {
-        across: x,
-        up: y,
-        mark,
+impl Lent<'_> {
+    // Whether the coordinates and the marks of the first n are in range.
+    #[tactic(auto, unfolding(crate::specs::Valid::samples_ok))]
+    pub fn all_ok(self, n: usize) -> bool
+        requires { (n ≤ length self.across.now) × (n ≤ length self.up.now) × (n ≤ length self.marks.now) }
+        ensures { result ≡ samples_ok (lent self.entry) n }
+    {
+        coordinates_ok(self.across, n) && coordinates_ok(self.up, n) && marks_ok(self.marks, n)
+    }
+
+    // Sample q, which they have.
+    pub fn at(self, q: usize) -> Sample
+        requires { (q < length self.across.now) × (q < length self.up.now) × (q < length self.marks.now) }
+        ensures { result ≡ sample_at (lent self.entry) q }
+    {
+        Sample {
+            across: self.across[q],
+            up: self.up[q],
+            mark: self.marks[q],
+        }
     }
 }
 
@@ -120,12 +100,10 @@ pub fn first_marked(marks: &[u8], from: usize, j: usize) -> usize
     requires { (from ≤ j) × (j < length marks.now) }
     ensures { FirstMarked marks.now from j result }
 {
-    let mut k = from;
-    while k < j {
+    for k in from..j {
         if marks[k] == MARKED {
             return k;
         }
-        k += 1;
     }
     j
 }
@@ -135,9 +113,7 @@ pub fn last_marked(marks: &[u8], j: usize) -> usize
     requires { j < length marks.now }
     ensures { LastMarked marks.now j result }
 {
-    let mut q = j;
-    while 0 < q {
-        q -= 1;
+    for q in (0..j).rev() {
         if marks[q] == MARKED {
             return q;
         }

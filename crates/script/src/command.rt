@@ -1,108 +1,123 @@
 // A command: 80 bytes, twenty words of 32 bits, low byte first. Word 0 is the operation, the others are nineteen signed numbers.
 ghost use Rattle.std.specs.Prelude.{◌<◌};
 
+use crate::say;
 use sample::Sample;
 use std::io;
 use std::io::{Read, Write};
+use std::num::TryFromIntError;
 
 // The bytes of a command.
 pub const LENGTH: usize = 80;
 
 #[derive(Clone, Copy)]
 pub struct Command {
-    pub bytes: [u8; LENGTH],
+    bytes: [u8; LENGTH],
 }
 
-// Whether a word is a number of 16 bits, and the number.
-pub fn is_short(word: u32) -> bool {
-    word < 32768 || 4294934528 <= word
-}
+// Of a command that is none: its operation is unknown, or a number is none that the operation can take.
+#[derive(Clone, Copy)]
+pub struct Unknown;
 
-pub fn short(word: u32) -> i16 {
-    let low = word % 65536;
-    words::from_bits(low as u16)
-}
-
-// Whether it is a byte, and the byte.
-pub fn is_byte(word: u32) -> bool {
-    word <= 255
-}
-
-pub fn byte(word: u32) -> u8 {
-    let low = word % 256;
-    low as u8
-}
-
-// Read a command; whether there is a whole one. A part of one has the line of a command that is none.
-pub fn next<R: Read, W: Write>(
-    input: &mut R,
-    out: &mut W,
-    bytes: &mut [u8; LENGTH],
-) -> io::Result<bool> {
-    let got = input::read_full(input, bytes);
-    if got == LENGTH {
-        return Ok(true);
+impl From<TryFromIntError> for Unknown {
+    fn from(_e: TryFromIntError) -> Unknown {
+        Unknown
     }
-    if 0 < got {
-        crate::say::unknown(out)?;
+}
+
+// What a command does.
+#[derive(Clone, Copy)]
+pub enum Operation {
+    Bufs,
+    Setup,
+    Poke,
+    Start,
+    Ask,
+    Read,
+    Decode,
+    Put,
+    List,
+    Empty,
+    Upload,
+}
+
+impl TryFrom<i32> for Operation {
+    type Error = Unknown;
+
+    fn try_from(word: i32) -> Result<Operation, Unknown> {
+        match word {
+            0 => Ok(Operation::Bufs),
+            1 => Ok(Operation::Setup),
+            2 => Ok(Operation::Poke),
+            3 => Ok(Operation::Start),
+            6 => Ok(Operation::Ask),
+            7 => Ok(Operation::Read),
+            8 => Ok(Operation::Decode),
+            9 => Ok(Operation::Put),
+            10 => Ok(Operation::List),
+            11 => Ok(Operation::Empty),
+            12 => Ok(Operation::Upload),
+            _ => Err(Unknown),
+        }
     }
-    Ok(false)
 }
 
 impl Command {
-    pub fn word(self, k: usize) -> u32
+    // The next of the input, None at its end. A part of one has the line of a command that is none.
+    pub fn read<R: Read, W: Write>(input: &mut R, out: &mut W) -> io::Result<Option<Command>> {
+        let mut bytes = [0u8; LENGTH];
+        match input::read_full(input, &mut bytes) {
+            LENGTH => Ok(Some(Command { bytes })),
+            0 => Ok(None),
+            _ => {
+                say::unknown(out)?;
+                Ok(None)
+            }
+        }
+    }
+
+    pub fn operation(&self) -> Result<Operation, Unknown> {
+        Operation::try_from(self.word(0))
+    }
+
+    // The record of a decode: the 16 bytes after the operation.
+    pub fn record(&self) -> &[u8] {
+        &self.bytes[4..20]
+    }
+
+    // A word as it is.
+    pub fn word(&self, k: usize) -> i32
         requires { k < 20 }
     {
-        let bytes = self.bytes;
-        words::long_at(&bytes, 4 * k)
+        words::long_at(&self.bytes, 4 * k).cast_signed()
     }
 
-    // A word as a count.
-    pub fn count(self, k: usize) -> usize
+    // A word as a number of a type that can hold it.
+    pub fn number<T: TryFrom<i32, Error = TryFromIntError>>(&self, k: usize) -> Result<T, Unknown>
         requires { k < 20 }
     {
-        self.word(k) as usize
+        Ok(T::try_from(self.word(k))?)
     }
 
-    // Whether the words up to word n are not negative.
-    pub fn are_whole(self, n: usize) -> bool
-        requires { n < 20 }
-    {
-        let mut k = 0;
-        while k <= n && self.word(k) < 2147483648 {
-            k += 1;
-        }
-        n < k
-    }
-
-    // Whether words k to k + 2 may be a sample: two of 16 bits and a byte.
-    pub fn is_sample(self, k: usize) -> bool
+    // Words k to k + 2 as a sample.
+    pub fn sample(&self, k: usize) -> Result<Sample, Unknown>
         requires { k < 18 }
     {
-        is_short(self.word(k)) && is_short(self.word(k + 1)) && is_byte(self.word(k + 2))
-    }
-
-    // The sample.
-    pub fn sample(self, k: usize) -> Sample
-        requires { k < 18 }
-    {
-        Sample {
-            across: short(self.word(k)),
-            up: short(self.word(k + 1)),
-            mark: byte(self.word(k + 2)),
-        }
+        Ok(Sample {
+            across: self.number(k)?,
+            up: self.number(k + 1)?,
+            mark: self.number(k + 2)?,
+        })
     }
 
     // Sixteen tolerances from word k on.
-    pub fn tolerances(self, k: usize) -> [u32; 16]
+    pub fn tolerances(&self, k: usize) -> Result<[u32; 16], Unknown>
         requires { k < 5 }
     {
-        let mut out: [u32; 16] = [0; 16];
-        let mut l = 0;
-        while l < 16 {
-            out[l] = self.word(k + l);
-            l += 1;
+        let mut tolerances = [0; 16];
+        for l in 0..16 {
+            tolerances[l] = self.number(k + l)?;
         }
-        out
+        Ok(tolerances)
     }
 }

@@ -6,7 +6,7 @@ use native.Mathlib.Numerals.{add-one}
 use native.Mathlib.Omega.{arith}
 use lib.ListN.{get_or}
 use Rattle.refusal.specs.declared.Refusal.TheVariants.{Setup, Tolerance}
-use Rattle.refusal.specs.declared.Outcome.TheVariants.{Done}
+use Rattle.std.specs.Prelude.{Ok}
 use Rattle.refusal.specs.Check.{Decides, from_to}
 use Rattle.refusal.proofs.Laws.{unless_done, then_done}
 use Rattle.refusal.proofs.Plain.{carry, by_less, by_order, both_decided, from_to_decided, all_decided}
@@ -33,7 +33,7 @@ tolerances_decided m tols =
     above T zero h = T.low 0 h
     above T (suc l) h = rw (add-one l) at (T.rise l (omega arith))
 
-pub setup_done : (m N : ℕ) (tols : List ℕ) → setup_outcome m N tols ≡ Done → Sized m N
+pub setup_done : (m N : ℕ) (tols : List ℕ) → setup_outcome m N tols ≡ Ok tt → Sized m N
 unfolding setup_outcome
 setup_done m N tols h = (setup_decided m N).right (unless_done (setup_ok m N) _ (then_done _ _ h).0)
 

@@ -1,7 +1,7 @@
 -- Refusals 1 and 2 as the tests that the code is proved against. `proofs/Decided.antt` shows that they decide what `Setup.antt` says. Assumes nothing.
 use Rattle.std.specs.Prelude.{ℕ, zero, suc, Bool, ◌&&◌, List, leb, ltb, get_or}
 use Rattle.refusal.specs.declared.Refusal.TheVariants.{Setup, Tolerance}
-use Rattle.refusal.specs.declared.Outcome.{Outcome}
+use Rattle.refusal.specs.Number.{Outcome}
 use Rattle.refusal.specs.Check.{unless, and_then, all_below, from_to}
 
 -- 1

@@ -29,19 +29,11 @@ pub const TOLERANCE_LEAST: u32 = 1;
 pub const TOLERANCE_MOST: u32 = 32768;
 
 // Whether levels and capacity are in range.
+#[tactic(auto, unfolding(crate::specs::Rows::setup_ok))]
 fn setup_ok(m: usize, cap: usize) -> bool
     ensures { result ≡ setup_ok m cap }
 {
-    if m < LEVELS_LEAST {
-        return false;
-    }
-    if LEVELS_MOST < m {
-        return false;
-    }
-    if cap < CAPACITY_LEAST {
-        return false;
-    }
-    cap <= CAPACITY_MOST
+    (LEVELS_LEAST..=LEVELS_MOST).contains(&m) && (CAPACITY_LEAST..=CAPACITY_MOST).contains(&cap)
 }
 
 // Whether the tolerances of levels 1 to m are in range and rise.
@@ -50,29 +42,21 @@ fn tolerances_ok(m: usize, tolerances: [u32; 16]) -> bool
     ensures { result ≡ tolerances_ok m tolerances }
 {
     let mut least = TOLERANCE_LEAST;
-    let mut l = 0;
-    while l < m {
-        let e = tolerances[l];
-        if e < least {
-            return false;
-        }
-        if TOLERANCE_MOST < e {
+    for &e in &tolerances[..m] {
+        if e < least || TOLERANCE_MOST < e {
             return false;
         }
         least = e + 1;
-        l += 1;
     }
     true
 }
 
 // Refusals 1 and 2: the setup.
+#[tactic(auto, unfolding(crate::specs::Rows::setup_outcome))]
 pub fn setup_outcome(m: usize, cap: usize, tolerances: [u32; 16]) -> Outcome
     ensures { result ≡ setup_outcome m cap tolerances }
 {
-    let o = unless(setup_ok(m, cap), Refusal::Setup);
-    let Outcome::Done = o else {
-        return o;
-    };
+    unless(setup_ok(m, cap), Refusal::Setup)?;
     unless(tolerances_ok(m, tolerances), Refusal::Tolerance)
 }
 
@@ -82,11 +66,7 @@ pub fn keep(m: usize, tolerances: [u32; 16]) -> [u32; 16]
     ensures { result ≡ kept m tolerances }
 {
     let mut out: [u32; 16] = [0; 16];
-    let mut k = 0;
-    while k < m {
-        out[k] = tolerances[k];
-        k += 1;
-    }
+    out[..m].copy_from_slice(&tolerances[..m]);
     out
 }
 

@@ -1,6 +1,5 @@
 -- The starred cases of the requirements, in their order: what each kind of case says, and the table. `proofs/Starred.antt` proves every one. Assumes nothing.
-use Rattle.std.specs.Prelude.{◌≡◌, ◌↔◌, List, [], ◌∷◌, map, ℕ, zero, suc, ◌-◌, ◌/◌, ◌%◌, ◌≤◌, ℤ, pos, neg_ℤ, length}
-use Rattle.refusal.specs.declared.Outcome.TheVariants.{Done}
+use Rattle.std.specs.Prelude.{◌≡◌, ◌↔◌, List, [], ◌∷◌, map, ℕ, zero, suc, ◌-◌, ◌/◌, ◌%◌, ◌≤◌, ℤ, pos, neg_ℤ, length, Ok}
 use Rattle.geometry.specs.Near.{Permitted}
 use Rattle.sample.specs.declared.Sample.{Sample}
 use Rattle.sample.specs.Samples.{Samples, sample, samples, sample_at}
@@ -85,7 +84,7 @@ Holds (ranked s tols rank total) = Ranked s tols rank total
 Holds (costs s tols k i j v) = Cost (PermitOf s tols) k i j v
 Holds two_samples = (a b : Sample) (tols : List ℕ) → length tols ≤ 16 → Ranked (a ∷ b ∷ []) tols (length tols ∷ length tols ∷ []) (length tols)
 Holds (one_sample number) = (a : Sizes) (xs : Samples) (t rank : List ℕ) → OneHeld a xs t rank → (k : ℕ) → ReadNumber a xs t rank k ↔ (k ≡ number)
-Holds (paused counters line) = pause_line_of (file counters) ≡ record { outcome = Done; sum = line }
+Holds (paused counters line) = pause_line_of (file counters) ≡ record { outcome = Ok tt; sum = line }
 
 abbrev pub All : List Case → Type 0
 All [] = Unit {0}

@@ -1,7 +1,7 @@
 -- Addresses: they are below the table's end, and no two cells have one. Assumes nothing.
 use mathlib.Core.Path.{◌≡◌, refl, ap, sym, ◌∙◌}
 use Prim.Native.Nat.{ℕ, suc, ◌+◌, ◌-◌, ◌*◌, ◌/◌, ◌%◌, ◌≤◌, ◌<◌}
-use native.Mathlib.Nat.{add-mul, mul_assoc, mul-le-mul, mul-le-mul_right, lt_of_lt_of_le, le_trans, div-add-mod'}
+use native.Mathlib.Nat.{add-mul, mul_assoc, mul-le-mul_right, lt_of_lt_of_le, le_trans, div-add-mod'}
 use native.Mathlib.Omega.{arith}
 use lib.Arith.{digits_lt, digits_div, digits_mod}
 use Rattle.table.specs.Table.{at}
@@ -41,6 +41,3 @@ at_all N a =
 -- a lower level has room where a higher one has
 pub room_below : (N k m len : ℕ) → k ≤ m → m * (N * N) ≤ len → k * (N * N) ≤ len
 room_below N k m len h l = le_trans (mul-le-mul_right (N * N) h) l
-
-pub square_small : (N : ℕ) → N ≤ 256 → N * N ≤ 65536
-square_small N h = mul-le-mul h h

@@ -1,17 +1,20 @@
 -- The test of the cells decides check 5 in plain words. Assumes nothing.
-use mathlib.Core.Path.{◌≡◌, sym, ap}
-use mathlib.Core.Bool.{Bool, ◌&&◌, and-true}
+use mathlib.Core.Path.{◌≡◌, refl, sym}
+use mathlib.Core.Bool.{Bool, true, false, ◌&&◌, not, and-true, and_assoc}
 use mathlib.Core.List.{List}
 use mathlib.Core.Logic.{◌⊎◌, inl, inr, ⊎_elim}
-use Prim.Native.Nat.{ℕ, ◌+◌, ◌-◌, ◌*◌, ◌≤◌, ◌<◌}
-use native.Mathlib.Nat.{add-zero}
+use Prim.Native.Nat.{ℕ, zero, suc, ◌+◌, ◌-◌, ◌*◌, ◌≤◌, ◌<◌}
+use native.Mathlib.Nat.{zero-add}
 use native.Mathlib.Numerals.{add-one}
 use native.Mathlib.Omega.{arith}
 use lib.Dec.{eqb, ltb}
-use lib.ListN.{get_or}
+use lib.ListN.{length, get_or, take, drop, length-take, length-drop}
+use Rattle.std.proofs.lemmas.List.{get_or-take, get_or-drop}
 use borrow.Author.Tests.{le-leb}
+use Rattle.std.proofs.lemmas.Bool.Decides.{nat_tests}
 use Rattle.refusal.specs.Check.{Decides, all_below, from_to}
-use Rattle.refusal.proofs.Plain.{decides_unique, carry, by_equal, by_less, both_decided, either_decided, from_to_decided, all_decided}
+use Rattle.refusal.proofs.Laws.{all_yes, all_no, all_same}
+use Rattle.refusal.proofs.Plain.{carry, by_equal, by_less, both_decided, either_decided, from_to_decided, all_decided}
 use Rattle.family.specs.Lists.{none}
 use Rattle.family.specs.Fine.{Fine, Checked}
 use Rattle.table.specs.Table.{at, cell}
@@ -28,30 +31,64 @@ cell_decided k steps v =
     (both_decided (eqb v none) (ltb 1 steps) (by_equal v none) (by_less 1 steps))
     (from_to_decided k (1 + (k - 1) * steps) v)
 
--- so the cell of neighbours is k itself
-pub neighbours_by : (k v : ℕ) → 1 ≤ k → eqb v k ≡ cell_ok k 1 v
-neighbours_by k v h =
-    decides_unique (eqb v k) (cell_ok k 1 v) (by_equal v k)
-    (carry (λ f. ⊎_elim (λ p. omega arith) (λ p. omega arith) f) (λ e. inr (omega arith)) (cell_decided k 1 v))
-
--- and that of a longer stretch is known by the most that it may be
-pub longer_by : (k d most v : ℕ) → 1 ≤ d → most ≡ 1 + (k - 1) * (d + 1) → long_ok k most v ≡ cell_ok k (d + 1) v
+-- that of a stretch that is not of neighbours is known by the most that it may be
+longer_by : (k d most v : ℕ) → 1 ≤ d → most ≡ 1 + (k - 1) * (d + 1) → long_ok k most v ≡ cell_ok k (d + 1) v
 unfolding cell_ok long_ok
 longer_by k d most v h e = rw (e, le-leb 2 (d + 1) (omega arith)) (simp and-true)
 
--- a row, cell by cell
-module _ (t : List ℕ) (base k : ℕ) where
-  abbrev cells_of : ℕ → Bool
-  cells_of d = all_below d (λ x. cell_ok k (x + 1) (get_or t (base + x) 0))
+-- that of neighbours, which is not none, too
+first_by : (k v : ℕ) → 1 ≤ k → k ≤ 16 → not (eqb v none) && long_ok k (1 + (k - 1) * 1) v ≡ cell_ok k 1 v
+unfolding cell_ok long_ok
+first_by k v h g = grind (arith, nat_tests)
 
-  pub row_first : (ok : Bool) → ok ≡ cell_ok k 1 (get_or t base 0) → ok ≡ cells_of 1
-  unfolding all_below
-  row_first ok h = rw (add-zero base) h
+-- a row, cell by cell: the first is not none, and each of the first d is none or from k to its most
+module _ (row : List ℕ) (k : ℕ) where
+  abbrev pub so_far : ℕ → Bool
+  so_far d = not (eqb (get_or row 0 0) none) && all_below d (λ x. long_ok k (1 + (k - 1) * (x + 1)) (get_or row x 0))
 
-  pub row_next : (d most : ℕ) (ok next both : Bool) → 1 ≤ d → most ≡ 1 + (k - 1) * d → ok ≡ cells_of d → next ≡ long_ok k (most + (k - 1)) (get_or t (base + d) 0) → both ≡ ok && next
-      → both ≡ cells_of (d + 1)
+  pub row_none : not (eqb (get_or row 0 0) none) ≡ so_far 0
   unfolding all_below
-  row_next d most ok next both h e a b c = rw (c, a, b, longer_by k d (most + (k - 1)) (get_or t (base + d) 0) h (omega arith)) (ap cells_of (sym (add-one d)))
+  row_none = sym (and-true _)
+
+  pub row_more : (d most : ℕ) (ok next : Bool) → most ≡ 1 + (k - 1) * (d + 1) → ok ≡ so_far d → next ≡ long_ok k most (get_or row d 0) → ok && next ≡ so_far (d + 1)
+  unfolding all_below
+  row_more d most ok next e a b = rw (add-one d, b, a, e, and_assoc) refl
+
+  pub row_all : 1 ≤ k → k ≤ 16 → (n : ℕ) → 1 ≤ n → so_far n ≡ row_ok row 0 k n
+  unfolding row_ok all_below
+  row_all h g zero o = absurd (omega arith)
+  row_all h g (suc zero) o = first_by k (get_or row 0 0) h g
+  row_all h g (suc (suc n)) o =
+      let l = longer_by k (suc n) (1 + (k - 1) * (suc n + 1)) (get_or row (suc n) 0) (omega arith) refl in
+      rw (zero-add (suc n), ← l, ← row_all h g (suc n) (omega arith)) (simp and_assoc)
+
+-- a row as a part of the table
+pub row_part : (t : List ℕ) (base count k size : ℕ) → size ≡ count → base + count ≤ length t
+    → row_ok (take size (drop base t)) 0 k (length (take size (drop base t))) ≡ row_ok t base k count
+unfolding row_ok
+row_part t base count k size e h =
+    let z : length (take size (drop base t)) ≡ count = simp (length-take, length-drop) (omega arith) in
+    rw z (all_same count _ _ (λ d l. let m : d < size = omega arith in rw (zero-add d, get_or-take, get_or-drop) refl))
+
+-- the rows of a level, one after another
+module _ (t : List ℕ) (N n k : ℕ) where
+  pub level_no : (j : ℕ) → 1 ≤ j → j < n → row_ok t (at N k (j - 1) j) k (n - j) ≡ false → level_ok t N n k ≡ false
+  unfolding level_ok
+  level_no j a b h = let z : j - 1 + 1 ≡ j = omega arith in all_no (n - 1) (j - 1) _ (omega arith) (rw z h)
+
+  pub level_yes : ((j : ℕ) → 1 ≤ j → j < n → row_ok t (at N k (j - 1) j) k (n - j) ≡ true) → level_ok t N n k ≡ true
+  unfolding level_ok
+  level_yes h = all_yes (n - 1) _ (λ i l. let z : i + 1 - 1 ≡ i = omega arith in rw z at (h (i + 1) (omega arith) (omega arith)))
+
+-- and the levels of a table
+module _ (t : List ℕ) (N n m : ℕ) where
+  pub levels_no : (k : ℕ) → 1 ≤ k → k ≤ m → level_ok t N n k ≡ false → cells_ok t N n m ≡ false
+  unfolding cells_ok
+  levels_no k a b h = let z : k - 1 + 1 ≡ k = omega arith in all_no m (k - 1) _ (omega arith) (rw z h)
+
+  pub levels_yes : ((k : ℕ) → 1 ≤ k → k ≤ m → level_ok t N n k ≡ true) → cells_ok t N n m ≡ true
+  unfolding cells_ok
+  levels_yes h = all_yes m _ (λ l a. h (l + 1) (omega arith) (omega arith))
 
 -- a stretch of i to j has j - i steps
 fine_by : (k i j v : ℕ) → i < j → (Fine k i j v → FineBy k (j - i) v) × (FineBy k (j - i) v → Fine k i j v)

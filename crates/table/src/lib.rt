@@ -1,10 +1,13 @@
 // The table of costs: where a cell stands, check 5 of the cells that a trace holds, and the chosen step of a path over one level's cells.
 #![tactic(auto)]
 
-ghost use Rattle.std.specs.Prelude.{◌≡◌, ◌&&◌, ℕ, ◌+◌, ◌*◌, ◌≤◌, ◌<◌, min, length, get_or};
-ghost use Rattle.table.specs.Table.{at, cell};
+ghost use Rattle.std.specs.Prelude.{◌≡◌, ℕ, ◌+◌, ◌*◌, ◌≤◌, ◌<◌, length, get_or};
+ghost use Rattle.table.specs.Table.{at, costs};
 ghost use Rattle.table.specs.Path.{SumAt, Stopped};
 ghost use Rattle.table.specs.Check.{cell_ok, long_ok, row_ok, level_ok, cells_ok};
+
+// The cost where no segment permits a stretch.
+pub const NONE: u16 = 65535;
 
 // The address of the cell of level k and stretch i to j, with room for cap samples.
 pub fn cell_at(cap: usize, k: usize, i: usize, j: usize) -> usize
@@ -14,114 +17,28 @@ pub fn cell_at(cap: usize, k: usize, i: usize, j: usize) -> usize
     (k - 1) * (cap * cap) + i * cap + j
 }
 
-// Whether a cell of level k and of neighbours may hold the cost.
-fn neighbours_ok(k: u16, cost: u16) -> bool
-    requires { (1 ≤ k) × (k ≤ 16) }
-    ensures { result ≡ cell_ok k 1 cost }
-{
-    cost == k
-}
-
-// Whether a cell of level k and of a longer stretch may: none, or from k to most.
-fn cell_ok(k: u16, most: u16, cost: u16) -> bool
+// Whether a cell of level k may hold the cost: none, or from k to most.
+#[tactic(auto, using(std::proofs::lemmas::Bool::Decides::nat_tests), unfolding(crate::specs::Check::long_ok))]
+fn long_ok(k: u16, most: u16, cost: u16) -> bool
     ensures { result ≡ long_ok k most cost }
 {
-    if cost == 65535 {
-        return true;
-    }
-    if cost < k {
-        return false;
-    }
-    cost <= most
+    cost == NONE || (k..=most).contains(&cost)
 }
 
-// Both of two answers.
-fn both(a: bool, b: bool) -> bool
-    ensures { result ≡ a && b }
+// Whether the cells of level k of the stretches of 1, 2, .. steps from one sample, which stand one after another, may hold what they hold; that of neighbours
+// is not none. A bad cell does not end the loop, which is compiled to many cells at a time so.
+#[tactic(auto, using(crate::proofs::Check::row_none, crate::proofs::Check::row_more, crate::proofs::Check::row_all))]
+fn row_ok(row: &[u16], k: u16) -> bool
+    requires { (1 ≤ k) × (k ≤ 16) × (1 ≤ length row.now) × (length row.now ≤ 256) }
+    ensures { result ≡ row_ok row.now 0 k (length row.now) }
 {
-    a & b
-}
-
-// Whether the cells of level k from an address on, of the stretches of 1, 2, .. steps, may hold what they hold. A bad cell does not end the loop, which is
-// compiled to many cells at a time so.
-fn row_ok(table: &[u16], base: usize, k: u16, count: usize) -> bool
-    requires { (1 ≤ k) × (k ≤ 16) × (1 ≤ count) × (count ≤ 256) × (base + count ≤ length table.now) }
-    ensures { result ≡ row_ok table.now base k count }
-{
-    let mut ok = neighbours_ok(k, table[base]);
-    let mut most = k;
-    let mut d = 1;
-    while d < count {
+    let mut ok = row[0] != NONE;
+    let mut most = 1;
+    for cost in row {
         most += k - 1;
-        ok = both(ok, cell_ok(k, most, table[base + d]));
-        d += 1;
+        ok &= long_ok(k, most, *cost);
     }
     ok
-}
-
-// Whether the cells of level k of the stretches of the first held samples may.
-fn level_ok(table: &[u16], cap: usize, held: usize, k: usize) -> bool
-    requires { (1 ≤ k) × (k ≤ 16) × (cap ≤ 256) × (k * (cap * cap) ≤ length table.now) × (held ≤ cap) }
-    ensures { result ≡ level_ok table.now cap held k }
-{
-    let mut i = 0;
-    while i + 1 < held {
-        let base = cell_at(cap, k, i, i + 1);
-        if !row_ok(table, base, k as u16, held - (i + 1)) {
-            return false;
-        }
-        i += 1;
-    }
-    true
-}
-
-// Check 5 of the table: whether every cell of a stretch of the first held samples, at levels 1 to m, may hold what it holds.
-pub fn cells_ok(table: &[u16], cap: usize, held: usize, m: usize) -> bool
-    requires { (m ≤ 16) × (cap ≤ 256) × (m * (cap * cap) ≤ length table.now) × (held ≤ cap) }
-    ensures { result ≡ cells_ok table.now cap held m }
-{
-    let mut l = 0;
-    while l < m {
-        if !level_ok(table, cap, held, l + 1) {
-            return false;
-        }
-        l += 1;
-    }
-    true
-}
-
-// What the cell of level k and stretch i to j holds.
-pub fn cost_at(table: &[u16], cap: usize, k: usize, i: usize, j: usize) -> u32
-    requires le_k { (1 ≤ k) × (k ≤ 16) × (cap ≤ 256) × (i < cap) × (j < cap) }
-    requires cap_in_bounds { k * (cap * cap) ≤ length table.now }
-    ensures { (result ≡ cell table.now cap k i j) × (result ≤ 65535) }
-{
-    let a = cell_at(cap, k, i, j);
-    table[a] as u32
-}
-
-// The lesser of two sums.
-fn lesser(a: u32, b: u32) -> u32
-    ensures { result ≡ min a b }
-{
-    if a < b { a } else { b }
-}
-
-// The least sum from p to j over the cells of level k, where sums has the least sums from the places between. The loop goes up, along the row, and keeps no stop: it
-// is compiled to many cells at a time so.
-pub fn least_sum(table: &[u16], sums: &[u32; 256], cap: usize, k: usize, p: usize, j: usize) -> u32
-    requires le_k { (1 ≤ k) × (k ≤ 16) × (cap ≤ 256) × (p < j) × (j < cap) }
-    requires cap_in_bounds { k * (cap * cap) ≤ length table.now }
-    requires by_index { (x : ℕ) → p < x → x < j → SumAt (cell table.now cap k) x j (get_or sums.now x 0) }
-    ensures { SumAt (cell table.now cap k) p j result }
-{
-    let mut sum = cost_at(table, cap, k, p, j);
-    let mut x = p + 1;
-    while x < j {
-        sum = lesser(cost_at(table, cap, k, p, x) + sums[x], sum);
-        x += 1;
-    }
-    sum
 }
 
 // The least sum of a path, and where it goes first.
@@ -131,23 +48,83 @@ pub struct Stop {
     pub to: usize,
 }
 
-// The least sum from p to j over the cells of level k, and the chosen stop after p, where sums has the least sums from the places between.
-pub fn best_stop(table: &[u16], sums: &[u32; 256], cap: usize, k: usize, p: usize, j: usize) -> Stop
-    requires le_k { (1 ≤ k) × (k ≤ 16) × (cap ≤ 256) × (p < j) × (j < cap) }
-    requires cap_in_bounds { k * (cap * cap) ≤ length table.now }
-    requires by_index { (x : ℕ) → p < x → x < j → SumAt (cell table.now cap k) x j (get_or sums.now x 0) }
-    ensures { Stopped (cell table.now cap k) p j result.sum result.to }
-{
-    let mut sum = cost_at(table, cap, k, p, j);
-    let mut to = j;
-    let mut x = j;
-    while p + 1 < x {
-        x -= 1;
-        let by = cost_at(table, cap, k, p, x) + sums[x];
-        if by < sum {
-            sum = by;
-            to = x;
+// A table of cells with room for so many samples.
+#[derive(Clone, Copy)]
+pub struct Table<'a> {
+    pub cells: &'a [u16],
+    pub capacity: usize,
+}
+
+impl Table<'_> {
+    // Whether the cells of level k of the stretches of the first held samples may.
+    fn level_ok(self, held: usize, k: usize) -> bool
+        requires { (1 ≤ k) × (k ≤ 16) × (self.capacity ≤ 256) × (k * (self.capacity * self.capacity) ≤ length self.cells.now) × (held ≤ self.capacity) }
+        ensures { result ≡ level_ok self.entry.cells.now self.entry.capacity held k }
+    {
+        for j in 1..held {
+            let base = cell_at(self.capacity, k, j - 1, j);
+            if !row_ok(&self.cells[base..base + (held - j)], k as u16) {
+                return false;
+            }
         }
+        true
     }
-    Stop { sum, to }
+
+    // Check 5 of the table: whether every cell of a stretch of the first held samples, at levels 1 to m, may hold what it holds.
+    #[tactic(auto, using(crate::proofs::Check::levels_no, crate::proofs::Check::levels_yes))]
+    pub fn all_ok(self, held: usize, m: usize) -> bool
+        requires { (m ≤ 16) × (self.capacity ≤ 256) × (m * (self.capacity * self.capacity) ≤ length self.cells.now) × (held ≤ self.capacity) }
+        ensures { result ≡ cells_ok self.entry.cells.now self.entry.capacity held m }
+    {
+        for k in 1..=m {
+            if !self.level_ok(held, k) {
+                return false;
+            }
+        }
+        true
+    }
+
+    // What the cell of level k and stretch i to j holds.
+    pub fn cost_at(self, k: usize, i: usize, j: usize) -> u32
+        requires le_k { (1 ≤ k) × (k ≤ 16) × (self.capacity ≤ 256) × (i < self.capacity) × (j < self.capacity) }
+        requires cap_in_bounds { k * (self.capacity * self.capacity) ≤ length self.cells.now }
+        ensures { (result ≡ costs self.entry k i j) × (result ≤ 65535) }
+    {
+        self.cells[cell_at(self.capacity, k, i, j)] as u32
+    }
+
+    // The least sum from p to j over the cells of level k, where sums has the least sums from the places between. The loop goes up, along the row, and keeps
+    // no stop: it is compiled to many cells at a time so.
+    #[tactic(auto, using(crate::proofs::Stops::lesser_none, crate::proofs::Stops::lesser_more, crate::proofs::Stops::lesser_all))]
+    pub fn least_sum(self, sums: &[u32; 256], k: usize, p: usize, j: usize) -> u32
+        requires le_k { (1 ≤ k) × (k ≤ 16) × (self.capacity ≤ 256) × (p < j) × (j < self.capacity) }
+        requires cap_in_bounds { k * (self.capacity * self.capacity) ≤ length self.cells.now }
+        requires by_index { (x : ℕ) → p < x → x < j → SumAt (costs self k) x j (get_or sums.now x 0) }
+        ensures { SumAt (costs self.entry k) p j result }
+    {
+        let mut sum = self.cost_at(k, p, j);
+        for x in p + 1..j {
+            sum = sum.min(self.cost_at(k, p, x) + sums[x]);
+        }
+        sum
+    }
+
+    // The least sum from p to j over the cells of level k, and the chosen stop after p, where sums has the least sums from the places between.
+    pub fn best_stop(self, sums: &[u32; 256], k: usize, p: usize, j: usize) -> Stop
+        requires le_k { (1 ≤ k) × (k ≤ 16) × (self.capacity ≤ 256) × (p < j) × (j < self.capacity) }
+        requires cap_in_bounds { k * (self.capacity * self.capacity) ≤ length self.cells.now }
+        requires by_index { (x : ℕ) → p < x → x < j → SumAt (costs self k) x j (get_or sums.now x 0) }
+        ensures { Stopped (costs self.entry k) p j result.sum result.to }
+    {
+        let mut sum = self.cost_at(k, p, j);
+        let mut to = j;
+        for x in (p + 1..j).rev() {
+            let by = self.cost_at(k, p, x) + sums[x];
+            if by < sum {
+                sum = by;
+                to = x;
+            }
+        }
+        Stop { sum, to }
+    }
 }

@@ -1,12 +1,17 @@
 -- Writing: nothing, one byte, one text after another, and where a text ends. Assumes nothing.
 use mathlib.Core.Path.{◌≡◌, refl, sym, ap, ◌∙◌}
 use mathlib.Core.List.{List, [], ◌∷◌, ◌++◌, append_assoc, append-nil}
-use Prim.Native.Nat.{ℕ, zero, suc, ◌+◌, ◌-◌, ◌≤◌, ◌<◌, min}
-use native.Mathlib.Numerals.{add-one}
+use Prim.Native.Nat.{ℕ, zero, suc, ◌+◌, ◌-◌, ◌≤◌, min}
 use native.Mathlib.Omega.{arith}
-use lib.ListN.{length, take, drop, set, get_or, length-append, length-take, length-set, take-append-drop}
-use lib.Seq.{take_all, take-suc, take-take, take-append-le, take-suc-set, drop-set-lt, drop-drop, length-take-le}
+use lib.ListN.{length, take, drop, length-append, length-take, take-append-drop}
+use lib.Seq.{take-append-add, take_all, drop-drop, length-take-le}
+use borrow.Rule.Slice.PartMut.{put_mid}
+use Rattle.std.proofs.Common.{rules}
+use Rattle.std.proofs.lemmas.List.{take_min}
+use Rattle.std.proofs.lemmas.Slice.{take-put_mid, drop-put_mid, overwrites}
+use Rattle.text.specs.declared.Text.{Text}
 use Rattle.text.specs.Text.{Written}
+use Rattle.text.specs.Writes.{Writes}
 
 -- a text that is cut and goes on is cut where the whole is
 cut_more : (n : ℕ) (x u : List ℕ) → take n (take n x ++ u) ≡ take n (x ++ u)
@@ -35,23 +40,23 @@ written_none {out} {at} h = record {
   rest = refl;
 }
 
-pub written_byte : (out : List ℕ) (at b : ℕ) → at < length out → Written out at (b ∷ []) (set out at b) (at + 1)
-written_byte out at b h = record {
-  same = length-set out at b;
-  fits = omega (arith, length-set out at b);
-  text = rw (add-one, take-suc-set out at b h)
-      (sym (take_all (length out) (take at out ++ (b ∷ [])) (omega (arith, length-append (take at out) (b ∷ []), length-take at out))));
-  rest = drop-set-lt (at + 1) out at b (omega arith);
-}
-
-pub written_full : {out t : List ℕ} {at : ℕ} → at ≡ length out → Written out at t out at
-written_full {out} {t} {at} h = record {
-  same = refl;
-  fits = omega arith;
-  text = rw h
-      (sym (take-append-le (length out) (take (length out) out) t (omega (arith, length-take (length out) out)) ∙ take-take (length out) (length out) out (omega arith)));
-  rest = refl;
-}
+-- a text in its place, as far as there is room
+pub written_text : (out : List ℕ) (at : ℕ) (t : List ℕ) (k n : ℕ) (u : List ℕ) → at ≤ length out → n ≡ min (length t) (length out - at) → k ≡ n → u ≡ take n t
+    → Written out at t (put_mid at k out u) (at + n)
+written_text out at t k n u h e f g =
+    let m : length u ≡ n = rw g (length-take-le n t (omega arith)) in
+    let same : length (put_mid at k out u) ≡ length out = search (rules, overwrites) in
+    let whole : length out ≡ length (take at out) + (length out - at) = omega (arith, length-take-le at out h) in
+    let part : take (length out - at) t ≡ u = sym (take_min (length out - at) t) ∙ ap (λ m. take m t) (omega arith) ∙ sym g in
+    let cut : take (length out) (take at out ++ t) ≡ take at out ++ u =
+    ap (λ m. take m (take at out ++ t)) whole ∙ take-append-add (take at out) t (length out - at) ∙ ap (λ l. take at out ++ l) part
+    in
+    record {
+      same = same;
+      fits = omega arith;
+      text = take-put_mid at k out u (at + n) (omega arith) h ∙ sym cut;
+      rest = drop-put_mid at k out u (at + n) (omega arith) h (omega arith);
+    }
 
 -- ---- one text after another
 drop_later : (r s : ℕ) (a b : List ℕ) → r ≤ s → drop r a ≡ drop r b → drop s a ≡ drop s b
@@ -71,10 +76,13 @@ written_more {out} {at} {t} {o} {r} {u} {o'} {s} W X = record {
 pub written_as : {out : List ℕ} {at : ℕ} {t u out' : List ℕ} {r : ℕ} → t ≡ u → Written out at t out' r → Written out at u out' r
 written_as e W = rw e at W
 
--- ---- a text byte by byte
-pub written_next : {out : List ℕ} {at : ℕ} (t : List ℕ) {o : List ℕ} {r : ℕ} (k : ℕ) {o' : List ℕ} {s : ℕ} → k < length t
-    → Written out at (take k t) o r → Written o r (get_or t k 0 ∷ []) o' s → Written out at (take (k + 1) t) o' s
-written_next t k h W X = rw (add-one, take-suc t k 0 h) (written_more W X)
+-- ---- the same of texts in a buffer
+pub writes_none : (s : Text) → Writes s [] s
+writes_none s = record { same_buffer = refl; written = written_none s.in_range }
 
-pub written_all : {out : List ℕ} {at : ℕ} (t : List ℕ) {o : List ℕ} {r : ℕ} (k : ℕ) → length t ≤ k → Written out at (take k t) o r → Written out at t o r
-written_all t k h W = written_as (take_all k t h) W
+module _ {s u : Text} {t : List ℕ} (W : Writes s t u) where
+  pub writes_as : (v : List ℕ) → t ≡ v → Writes s v u
+  writes_as v e = rw e at W
+
+  pub writes_more : {v : List ℕ} {w : Text} → Writes u v w → Writes s (t ++ v) w
+  writes_more X = record { same_buffer = X.same_buffer ∙ W.same_buffer; written = written_more W.written X.written }

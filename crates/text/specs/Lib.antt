@@ -1,1 +1,2 @@
 pub mod Text
+pub mod Writes

@@ -2,71 +2,69 @@
 #![tactic(auto)]
 
 ghost use Rattle.std.specs.Prelude.{◌≡◌, [], ◌∷◌, ◌++◌, ◌≤◌, nat_abs, length};
-ghost use Rattle.text.specs.Text.{Written, decimal, signed_decimal};
 
-// One byte more, where there is room.
-pub fn byte(out: &mut [u8], at: usize, b: u8) -> usize
-    requires { at ≤ length out.old }
-    ensures { Written out.old at (b ∷ []) out.new result }
-{
-    if at < out.len() {
-        out[at] = b;
-        return at + 1;
+// A text in a lent buffer, and where it ends.
+#[derive(Drop)]
+pub struct Text<'a> {
+    pub out: &'a mut [u8],
+    pub at: usize,
+    pub ghost in_range: { at ≤ length out.now },
+}
+
+impl<'a> Text<'a> {
+    ghost use Rattle.text.specs.Text.{decimal, signed_decimal};
+    ghost use Rattle.text.specs.Writes.{Writes};
+
+    // One byte more, where there is room.
+    pub fn byte(&mut self, b: u8)
+        ensures { Writes self.old (b ∷ []) self.new }
+    {
+        if self.at < self.out.len() {
+            self.out[self.at] = b;
+            self.at += 1;
+        }
     }
-    at
-}
 
-// The bytes of a text, as far as there is room.
-pub fn bytes(out: &mut [u8], at: usize, text: &[u8]) -> usize
-    requires { at ≤ length out.old }
-    ensures { Written out.old at text.now out.new result }
-{
-    let mut end = at;
-    let mut k = 0;
-    while k < text.len() {
-        end = byte(out, end, text[k]);
-        k += 1;
+    // The bytes of a text, as far as there is room.
+    pub fn bytes(&mut self, text: &[u8])
+        ensures { Writes self.old text.now self.new }
+    {
+        let n = text.len().min(self.out.len() - self.at);
+        self.out[self.at..self.at + n].copy_from_slice(&text[..n]);
+        self.at += n;
     }
-    end
-}
 
-// A number in decimal.
-pub fn number(out: &mut [u8], at: usize, n: u64) -> usize
-    requires { at ≤ length out.old }
-    ensures { Written out.old at (decimal n) out.new result }
-{
-    let mut digits = [0u8; 20];
-    let k = io::decimal(n, &mut digits);
-    bytes(out, at, &digits[..k])
-}
+    // A number in decimal.
+    pub fn number(&mut self, n: u64)
+        ensures { Writes self.old (decimal n) self.new }
+    {
+        let mut digits = [0u8; 20];
+        let k = io::decimal(n, &mut digits);
+        self.bytes(&digits[..k]);
+    }
 
-// A text, and a number in decimal after it.
-pub fn labelled(out: &mut [u8], at: usize, label: &[u8], n: u64) -> usize
-    requires { at ≤ length out.old }
-    ensures { Written out.old at (label.now ++ decimal n) out.new result }
-{
-    let at = bytes(out, at, label);
-    number(out, at, n)
+    // A text, and a number in decimal after it.
+    pub fn labelled(&mut self, label: &[u8], n: u64)
+        ensures { Writes self.old (label.now ++ decimal n) self.new }
+    {
+        self.bytes(label);
+        self.number(n);
+    }
+
+    // A signed number in decimal.
+    pub fn signed(&mut self, z: i16)
+        ensures { Writes self.old (signed_decimal z) self.new }
+    {
+        if z < 0 {
+            self.byte(b'-');
+        }
+        self.number(magnitude(z));
+    }
 }
 
 // The magnitude of a signed number.
 pub fn magnitude(z: i16) -> u64
     ensures { (result ≡ nat_abs z) × (result ≤ 32768) }
 {
-    if z < 0 {
-        return (0 - (z as i64)) as u64;
-    }
-    z as u64
-}
-
-// A signed number in decimal.
-pub fn signed(out: &mut [u8], at: usize, z: i16) -> usize
-    requires { at ≤ length out.old }
-    ensures { Written out.old at (signed_decimal z) out.new result }
-{
-    if z < 0 {
-        let minus = byte(out, at, b'-');
-        return number(out, minus, magnitude(z));
-    }
-    number(out, at, magnitude(z))
+    z.unsigned_abs() as u64
 }

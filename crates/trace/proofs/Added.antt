@@ -15,7 +15,8 @@ use Rattle.sample.specs.Samples.{Samples, sample, sample_at, store}
 use Rattle.costs.specs.Costs.{sum}
 use Rattle.costs.proofs.Tally.{sum_same}
 use Rattle.trace.specs.declared.Trace.{Trace}
-use Rattle.trace.specs.declared.Stop.{Stop}
+use Rattle.refusal.specs.Number.{Outcome}
+use Rattle.std.specs.Prelude.{Ok, Err}
 use Rattle.trace.specs.declared.Uploaded.{Uploaded}
 use Rattle.trace.specs.Calls.{sizes, Buffers, Put, holding}
 use Rattle.checks.specs.Numbers.{OneLength}
@@ -48,13 +49,13 @@ pub record Leaves (a : Trace) (b : Buffers) (zs : List Sample) (r : Uploaded) (e
   pub added : (p : ℕ) → p < r.added → sample_at e.samples (a.held + p) ≡ get_or zs p no_sample
   pub kept : (q : ℕ) → (q < a.held) ⊎ (a.held + r.added ≤ q) → sample_at e.samples q ≡ sample_at b.samples q
 
-leaves_none : (a : Trace) (b : Buffers) (zs : List Sample) (stop : Stop) → Leaves a b zs (uploaded stop a 0 0) b
+leaves_none : (a : Trace) (b : Buffers) (zs : List Sample) (stop : Outcome) → Leaves a b zs (uploaded stop a 0 0) b
 unfolding sum
 leaves_none a b zs stop = record { few = omega arith; trace = rw (add-zero a.held) refl; cells = refl; added = λ p l. absurd (omega arith); kept = λ q h. refl }
 
 pub puts_leave : {a : Trace} {b e : Buffers} {zs : List Sample} {r : Uploaded} → Puts a b zs r e → Leaves a b zs r e
-puts_leave {a} {b} all_taken = leaves_none a b [] Stop.AllTaken
-puts_leave {a} {b} {zs = zs} (one_refused {why = why} G h) = let N = G.refused why h in rw (N.trace, N.lent) (leaves_none a b zs (Stop.Refused why))
+puts_leave {a} {b} all_taken = leaves_none a b [] (Ok tt)
+puts_leave {a} {b} {zs = zs} (one_refused {why = why} G h) = let N = G.refused why h in rw (N.trace, N.lent) (leaves_none a b zs (Err why))
 puts_leave {a} {b} {e} (one_taken {c = c} {x = x} {xs = xs} {r = r} {q = q} G h P) =
     let n = a.held in
     let A = put_adds a b n x r c G h refl in
@@ -79,7 +80,7 @@ puts_leave {a} {b} {e} (one_taken {c = c} {x = x} {xs = xs} {r = r} {q = q} G h 
 pub upload_leaves : (a : Trace) (b : Buffers) (us : Samples) (r : Uploaded) (e : Buffers) (us' : Samples) → UploadGives a b us r e us' → Leaves a b (zipped us.across us.up us.marks) r e
 upload_leaves a b us r e us' G = elim (decided _ (lists_decided us)) [
   | yes o ↦ puts_leave (G.puts o)
-  | no n ↦ let P = G.unequal n in rw (P.0, P.1) (leaves_none a b _ (Stop.Refused Buffer))
+  | no n ↦ let P = G.unequal n in rw (P.0, P.1) (leaves_none a b _ (Err Buffer))
 ]
 
 -- ---- samples before the stop: alone they are all taken, and lead to the same
@@ -96,13 +97,13 @@ firsts_length q us o = (
   rw (length-take q us.across, length-take q us.marks, o.1) refl,
 )
 
-puts_firsts : {a : Trace} {b e : Buffers} {zs : List Sample} {r : Uploaded} → Puts a b zs r e → Puts a b (take r.added zs) (uploaded Stop.AllTaken r.trace r.added r.cells) e
+puts_firsts : {a : Trace} {b e : Buffers} {zs : List Sample} {r : Uploaded} → Puts a b zs r e → Puts a b (take r.added zs) (uploaded (Ok tt) r.trace r.added r.cells) e
 puts_firsts all_taken = all_taken
 puts_firsts (one_refused {why = why} G h) = let N = G.refused why h in rw (N.trace, N.lent) all_taken
 puts_firsts (one_taken G h P) = one_taken G h (puts_firsts P)
 
 pub upload_firsts : (a : Trace) (b : Buffers) (us : Samples) (r : Uploaded) (e : Buffers) (us' : Samples) → UploadGives a b us r e us'
-    → UploadGives a b (firsts r.added us) (uploaded Stop.AllTaken r.trace r.added r.cells) e (firsts r.added us)
+    → UploadGives a b (firsts r.added us) (uploaded (Ok tt) r.trace r.added r.cells) e (firsts r.added us)
 upload_firsts a b us r e us' G = elim (decided _ (lists_decided us)) [
   | yes o ↦
       record {

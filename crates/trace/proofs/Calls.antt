@@ -1,14 +1,14 @@
 -- From what the checks answer, and what a change of a sample leaves, to what a call gives: on plain data. Assumes nothing.
-use mathlib.Core.Path.{◌≡◌, refl, sym, ap, ◌∙◌}
+use mathlib.Core.Path.{◌≡◌, refl}
 use mathlib.Core.List.{List}
 use Prim.Native.Nat.{ℕ, ◌≤◌, ◌<◌}
 use native.Mathlib.Omega.{arith}
 use lib.ListN.{length-set}
 use Rattle.refusal.specs.declared.Refusal.{Refusal}
-use Rattle.refusal.specs.declared.Outcome.{Outcome}
-use Rattle.refusal.specs.declared.Outcome.TheVariants.{Done, Refused}
-use Rattle.refusal.specs.Number.{code}
-use Rattle.refusal.proofs.Rows.{numbered, number_one}
+use Rattle.refusal.specs.Number.{Outcome, code}
+use Rattle.std.specs.Prelude.{Ok, Err}
+use Rattle.std.specs.Result.{result_and}
+use Rattle.refusal.specs.Check.{and_then}
 use Rattle.sample.specs.Mark.{Mark}
 use Rattle.sample.specs.declared.Sample.{Sample}
 use Rattle.sample.specs.Samples.{Samples, store}
@@ -24,7 +24,8 @@ use Rattle.trace.specs.declared.Changed.{Changed}
 use Rattle.checks.specs.Numbers.{PutNumber}
 use Rattle.sizes.specs.Setup.{held_with}
 use Rattle.trace.specs.Calls.{sizes, Buffers, buffers, holding, Put, PutGives}
-use Rattle.checks.specs.Rows.{Passed, PassedTable}
+use Rattle.checks.specs.Rows.{trace_outcome, sample_outcome, put_outcome, Passed, PassedTable}
+use Rattle.checks.proofs.Numbers.{put_number}
 use Rattle.change.specs.Change.{Ready, Changes}
 use Rattle.sizes.proofs.Held.{held_others}
 use Rattle.checks.proofs.Passed.{put_passed}
@@ -32,12 +33,22 @@ use Rattle.trace.proofs.Ready.{put_ready, set_each}
 use Rattle.costs.proofs.Meaning.{rewritten_cells, cells_rewritten}
 
 -- no call is both carried out and refused
-pub done_refused : {A : Type 0} {o : Outcome} {why : Refusal} → o ≡ Done → o ≡ Refused why → A
-done_refused {why = why} h g = absurd (numbered why (ap code (sym g ∙ h)))
+pub done_refused : {A : Type 0} {o : Outcome} {why : Refusal} → o ≡ Ok tt → o ≡ Err why → A
+done_refused h g = absurd (cc)
 
 -- and a call refused twice is refused alike
-pub refused_one : {o p : Outcome} {v w : Refusal} → o ≡ p → o ≡ Refused v → p ≡ Refused w → v ≡ w
-refused_one {v = v} {w = w} e h g = number_one v w (ap code (sym h ∙ e ∙ g))
+pub refused_one : {o p : Outcome} {v w : Refusal} → o ≡ p → o ≡ Err v → p ≡ Err w → v ≡ w
+refused_one e h g = cc
+
+-- what put's two rows say together
+joined : (o p : Outcome) → result_and o p ≡ and_then o p
+joined (Ok _) p = refl
+joined (Err why) p = refl
+
+pub put_says : (a : Trace) (b : Buffers) (v : ℕ) (x : Sample) {first own o : Outcome} → first ≡ trace_outcome (sizes a) b.samples b.table → own ≡ sample_outcome (sizes a) v x → o ≡ result_and first own
+    → PutNumber (sizes a) b.samples b.table v x (code o)
+unfolding put_outcome
+put_says a b v x {first} {own} f w e = rw (e, joined first own, f, w) (put_number (sizes a) b.samples b.table v x)
 
 -- buffers are their parts
 pub buffers_is : {b : Buffers} {xs : Samples} {t : List ℕ} → b.samples ≡ xs → b.table ≡ t → b ≡ buffers xs t
@@ -58,7 +69,7 @@ put_able a b v x h =
 
 module _ {a : Trace} {b : Buffers} {v : ℕ} {x : Sample} where
   -- the checks refuse, and nothing is written
-  pub refused_gives : {o : Outcome} {why : Refusal} → PutNumber (sizes a) b.samples b.table v x (code o) → o ≡ Refused why
+  pub refused_gives : {o : Outcome} {why : Refusal} → PutNumber (sizes a) b.samples b.table v x (code o) → o ≡ Err why
       → PutGives a b v x (record { outcome = o; trace = a; cells = 0 }) b
   refused_gives h g = record {
     number = h;
@@ -69,7 +80,7 @@ module _ {a : Trace} {b : Buffers} {v : ℕ} {x : Sample} where
   -- the sample is put
   pub changed_gives : {cells : ℕ} {e : Buffers} → PutNumber (sizes a) b.samples b.table v x 0
       → Changes (sizes (holding a (held_with a.held v))) b.samples b.table v x cells e.samples e.table
-      → PutGives a b v x (record { outcome = Done; trace = holding a (held_with a.held v); cells = cells }) e
+      → PutGives a b v x (record { outcome = Ok tt; trace = holding a (held_with a.held v); cells = cells }) e
   changed_gives {cells} {e} h C =
       let A = put_able a b v x h in
       let R = A.ready in

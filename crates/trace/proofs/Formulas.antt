@@ -2,7 +2,7 @@
 use mathlib.Core.Path.{◌≡◌, sym, ap, subst, ◌∙◌}
 use Prim.Native.Nat.{ℕ, ◌+◌, ◌-◌, ◌*◌, ◌<◌}
 use native.Mathlib.Omega.{arith}
-use Rattle.refusal.specs.declared.Outcome.TheVariants.{Done}
+use Rattle.std.specs.Prelude.{Ok}
 use Rattle.sample.specs.declared.Sample.{Sample}
 use Rattle.costs.proofs.Tally.{named_formula, named_add}
 use Rattle.trace.specs.declared.Trace.{Trace}
@@ -10,7 +10,7 @@ use Rattle.trace.specs.declared.Changed.{Changed}
 use Rattle.trace.specs.Calls.{Buffers, Put, PutGives}
 use Rattle.sizes.proofs.Held.{held_corrected, held_added}
 
-module _ (a : Trace) (b : Buffers) (v : ℕ) (x : Sample) (r : Changed) (e : Buffers) (G : PutGives a b v x r e) (d : r.outcome ≡ Done) where
+module _ (a : Trace) (b : Buffers) (v : ℕ) (x : Sample) (r : Changed) (e : Buffers) (G : PutGives a b v x r e) (d : r.outcome ≡ Ok tt) where
   -- below n it is a correction: sample v is another, and as many are held
   pub put_corrects : v < a.held → Put a b v a.held x r e
   put_corrects h = subst (λ n. Put a b v n x r e) (held_corrected a.held v h) (G.done d)

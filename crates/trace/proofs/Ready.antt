@@ -11,13 +11,12 @@ use lib.Seq.{get_or-set_same, get_or-set_other}
 use Rattle.sample.specs.Coordinate.{Coord, InRange}
 use Rattle.sample.specs.declared.Sample.{Sample}
 use Rattle.sample.specs.Samples.{Samples}
-use Rattle.sizes.specs.Setup.{Tolerances}
+use Rattle.sizes.specs.Setup.{Tolerances, held_with}
 use Rattle.checks.specs.Numbers.{PutNumber}
 use Rattle.checks.proofs.Passed.{put_passed}
 use Rattle.permission.specs.Finest.{Rising}
 use Rattle.costs.proofs.Exit.{put_steps}
 use Rattle.trace.specs.declared.Trace.{Trace}
-use Rattle.sizes.specs.Setup.{held_with}
 use Rattle.trace.specs.Calls.{sizes, holding}
 use Rattle.change.specs.Change.{Ready}
 use Rattle.sizes.proofs.Held.{held_there, held_room, held_others}

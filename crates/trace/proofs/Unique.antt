@@ -6,25 +6,24 @@ use Prim.Native.Nat.{ℕ, ◌-◌}
 use native.Mathlib.Omega.{arith}
 use lib.ListN.{get_or}
 use Rattle.refusal.specs.declared.Refusal.{Refusal}
-use Rattle.refusal.specs.declared.Outcome.{Outcome}
-use Rattle.refusal.specs.declared.Outcome.TheVariants.{Done, Refused}
-use Rattle.refusal.specs.Number.{code}
+use Rattle.refusal.specs.Number.{Outcome, code}
+use Rattle.std.specs.Prelude.{Ok, Err}
 use Rattle.refusal.proofs.Plain.{decided}
 use Rattle.refusal.proofs.Rows.{numbered, number_one, code_one, by_outcome}
 use Rattle.geometry.specs.Near.{Passable}
 use Rattle.sample.specs.declared.Sample.{Sample}
 use Rattle.sample.specs.Samples.{Samples}
 use Rattle.geometry.specs.Spoiler.{Spoiler}
-use Rattle.geometry.proofs.Spoiler.{spoiler_one, spoiled}
+use Rattle.geometry.specs.declared.Verdict.TheVariants.{Yes, No}
+use Rattle.geometry.proofs.Spoiler.{says_one as verdict_one}
 use Rattle.costs.specs.Costs.{Permit}
 use Rattle.trace.specs.declared.Trace.{Trace}
 use Rattle.trace.specs.declared.Started.{Started}
 use Rattle.trace.specs.declared.Changed.{Changed}
 use Rattle.trace.specs.declared.Uploaded.{Uploaded}
-use Rattle.trace.specs.declared.Asked.{Asked}
 use Rattle.trace.specs.declared.Levels.{Levels}
 use Rattle.checks.specs.Numbers.{StartNumber, PutNumber, ReadNumber}
-use Rattle.trace.specs.Calls.{sizes, StartGives, Buffers, Put, PutGives, asked, Says, AskGives, ReadGives}
+use Rattle.trace.specs.Calls.{sizes, StartGives, Buffers, Put, PutGives, Asked, asked, Says, AskGives, ReadGives}
 use Rattle.trace.specs.Upload.{Puts, UploadGives}
 use Rattle.trace.specs.Upload.Puts.{all_taken, one_refused, one_taken}
 use Rattle.checks.proofs.Decided.{lists_decided}
@@ -34,9 +33,9 @@ use Rattle.costs.proofs.Exit.{rewritten_unique}
 use Rattle.readout.proofs.Meaning.{ranks_one}
 use Rattle.trace.proofs.Calls.{done_refused, refused_one, Able, put_able, put_rewritten, buffers_is}
 
--- two outcomes with a number that one row leaves no choice of are equal: both Done, or both one refusal
+-- two outcomes with a number that one row leaves no choice of are equal: both Ok, or both one refusal
 pub by_number : {A : Type 0} (Number : ℕ → Type 0) → ((j k : ℕ) → Number j → Number k → j ≡ k) → (o p : Outcome) → Number (code o) → Number (code p)
-    → (o ≡ p → o ≡ Done → p ≡ Done → A) → (o ≡ p → (why : Refusal) → o ≡ Refused why → p ≡ Refused why → A) → A
+    → (o ≡ p → o ≡ Ok tt → p ≡ Ok tt → A) → (o ≡ p → (why : Refusal) → o ≡ Err why → p ≡ Err why → A) → A
 by_number Number one o p h g done refused =
     let e = code_one o p (one (code o) (code p) h g) in
     by_outcome o (λ d. done e d (sym e ∙ d)) (λ w d. refused e w d (sym e ∙ d))
@@ -66,7 +65,7 @@ pub put_one : (a : Trace) (b : Buffers) (v : ℕ) (x : Sample) (r q : Changed) (
 put_one a b v x r q e f A B =
     by_number (PutNumber (sizes a) b.samples b.table v x) (put_number_one (sizes a) b.samples b.table v x) r.outcome q.outcome A.number B.number done refused
   where
-    done : r.outcome ≡ q.outcome → r.outcome ≡ Done → q.outcome ≡ Done → (r ≡ q) × (e ≡ f)
+    done : r.outcome ≡ q.outcome → r.outcome ≡ Ok tt → q.outcome ≡ Ok tt → (r ≡ q) × (e ≡ f)
     done o h g =
         let P = A.done h in
         let Q = B.done g in (
@@ -74,7 +73,7 @@ put_one a b v x r q e f A B =
           buffers_is (P.samples ∙ sym Q.samples) (table_one a b v _ x (put_able a b v x (rw h at A.number)) P Q),
         )
 
-    refused : r.outcome ≡ q.outcome → (why : Refusal) → r.outcome ≡ Refused why → q.outcome ≡ Refused why → (r ≡ q) × (e ≡ f)
+    refused : r.outcome ≡ q.outcome → (why : Refusal) → r.outcome ≡ Err why → q.outcome ≡ Err why → (r ≡ q) × (e ≡ f)
     refused o w h g =
         let P = A.refused w h in
         let Q = B.refused w g in
@@ -104,15 +103,10 @@ upload_one a b us r q e f u w A B = elim (decided _ (lists_decided us)) [
 -- ---- ask
 -- two answers about one stretch, with one number
 pub says_one : (xs : Samples) (i j e : ℕ) (r q : Asked) → asked r ≡ asked q → Says xs i j e r → Says xs i j e q → r ≡ q
-says_one xs i j e Asked.Yes Asked.Yes n A B = refl
-says_one xs i j e Asked.Yes (Asked.No l) n A B = absurd (spoiled B A)
-says_one xs i j e Asked.Yes (Asked.Refused w) n A B = absurd (numbered w (sym n))
-says_one xs i j e (Asked.No k) Asked.Yes n A B = absurd (spoiled A B)
-says_one xs i j e (Asked.No k) (Asked.No l) n A B = ap Asked.No (spoiler_one A B)
-says_one xs i j e (Asked.No k) (Asked.Refused w) n A B = absurd (numbered w (sym n))
-says_one xs i j e (Asked.Refused w) Asked.Yes n A B = absurd (numbered w n)
-says_one xs i j e (Asked.Refused w) (Asked.No l) n A B = absurd (numbered w n)
-says_one xs i j e (Asked.Refused w) (Asked.Refused x) n A B = ap Asked.Refused (number_one w x n)
+says_one xs i j e (Ok v) (Ok w) n A B = ap Ok (verdict_one xs i j e v w A B)
+says_one xs i j e (Ok v) (Err w) n A B = absurd (numbered w (sym n))
+says_one xs i j e (Err w) (Ok v) n A B = absurd (numbered w n)
+says_one xs i j e (Err w) (Err x) n A B = ap Err (number_one w x n)
 
 pub ask_one : (a : Trace) (xs : Samples) (k i j : ℕ) (r q : Asked) (u w : Samples) → AskGives a xs k i j r u → AskGives a xs k i j q w → (r ≡ q) × (u ≡ w)
 ask_one a xs k i j r q u w A B = (
@@ -122,11 +116,11 @@ ask_one a xs k i j r q u w A B = (
 
 -- where the call is not refused: yes exactly when the stretch is permitted, and no with l exactly when l is the lowest sample that is marked or lies too far away
 module _ (a : Trace) (xs : Samples) (k i j : ℕ) (r : Asked) (u : Samples) (G : AskGives a xs k i j r u) (n : asked r ≡ 0) where
-  pub ask_yes : (r ≡ Asked.Yes) ↔ Permit xs a.tolerances k i j
-  ask_yes = (λ h. rw h at G.says, λ p. says_one xs i j (get_or a.tolerances (k - 1) 0) r Asked.Yes n G.says p)
+  pub ask_yes : (r ≡ Ok Yes) ↔ Permit xs a.tolerances k i j
+  ask_yes = (λ h. rw h at G.says, λ p. says_one xs i j (get_or a.tolerances (k - 1) 0) r (Ok Yes) n G.says p)
 
-  pub ask_no : (l : ℕ) → (r ≡ Asked.No l) ↔ Spoiler (Passable xs i j (get_or a.tolerances (k - 1) 0)) i j l
-  ask_no l = (λ h. rw h at G.says, λ s. says_one xs i j (get_or a.tolerances (k - 1) 0) r (Asked.No l) n G.says s)
+  pub ask_no : (l : ℕ) → (r ≡ Ok (No l)) ↔ Spoiler (Passable xs i j (get_or a.tolerances (k - 1) 0)) i j l
+  ask_no l = (λ h. rw h at G.says, λ s. says_one xs i j (get_or a.tolerances (k - 1) 0) r (Ok (No l)) n G.says s)
 
 -- ---- read
 pub levels_same : {r q : Levels} → r.outcome ≡ q.outcome → r.segments ≡ q.segments → r.total ≡ q.total → r ≡ q
@@ -138,7 +132,7 @@ pub read_one : (a : Trace) (b : Buffers) (ranks : List ℕ) (r q : Levels) (e f 
 read_one a b ranks r q e f u w A B =
     by_number (ReadNumber (sizes a) b.samples b.table ranks) (read_number_one (sizes a) b.samples b.table ranks) r.outcome q.outcome A.number B.number done refused
   where
-    done : r.outcome ≡ q.outcome → r.outcome ≡ Done → q.outcome ≡ Done → (r ≡ q) × (e ≡ f) × (u ≡ w)
+    done : r.outcome ≡ q.outcome → r.outcome ≡ Ok tt → q.outcome ≡ Ok tt → (r ≡ q) × (e ≡ f) × (u ≡ w)
     done o h g =
         let p = read_passed (sizes a) b.samples b.table ranks (rw h at A.number) in
         let z = p.0.sized in
@@ -147,7 +141,7 @@ read_one a b ranks r q e f u w A B =
         (A.done h) (B.done g) in
         (levels_same o s.1 s.2, A.lent ∙ sym B.lent, s.0)
 
-    refused : r.outcome ≡ q.outcome → (why : Refusal) → r.outcome ≡ Refused why → q.outcome ≡ Refused why → (r ≡ q) × (e ≡ f) × (u ≡ w)
+    refused : r.outcome ≡ q.outcome → (why : Refusal) → r.outcome ≡ Err why → q.outcome ≡ Err why → (r ≡ q) × (e ≡ f) × (u ≡ w)
     refused o v h g =
         let P = A.refused v h in
         let Q = B.refused v g in

@@ -9,11 +9,12 @@ use native.Mathlib.Omega.{arith}
 use lib.ListN.{length, length-set, get_or, set}
 use lib.Seq.{get_or-set_same, get_or-set_other}
 use Rattle.refusal.specs.declared.Refusal.{Refusal}
-use Rattle.refusal.specs.declared.Outcome.TheVariants.{Done, Refused}
+use Rattle.std.specs.Prelude.{Ok, Err}
 use Rattle.refusal.proofs.Plain.{decided}
 use Rattle.refusal.proofs.Rows.{first_same, first_unless}
 use Rattle.sample.specs.declared.Sample.{Sample}
 use Rattle.sample.specs.Samples.{Samples, sample_at, store}
+use Rattle.geometry.specs.declared.Verdict.TheVariants.{Yes, No}
 use Rattle.geometry.proofs.Spoiler.{spoiler_carried}
 use Rattle.geometry.proofs.Permits.{Same, same_back, passable_same, permitted_same, permits_same}
 use Rattle.family.specs.Fine.{Checked}
@@ -27,15 +28,12 @@ use Rattle.readout.proofs.Unique.{read_alike}
 use Rattle.readout.proofs.Meaning.{ranks_read}
 use Rattle.trace.specs.declared.Trace.{Trace}
 use Rattle.trace.specs.declared.Changed.{Changed}
-use Rattle.trace.specs.declared.Stop.TheVariants as Stop
 use Rattle.trace.specs.declared.Uploaded.{Uploaded}
-use Rattle.trace.specs.declared.Asked.{Asked}
 use Rattle.trace.specs.declared.Levels.{Levels}
 use Rattle.sample.specs.Valid.{Valid}
-use Rattle.sizes.specs.Setup.{Tolerances}
+use Rattle.sizes.specs.Setup.{Tolerances, held_with}
 use Rattle.checks.specs.Numbers.{LentSamples, LentTable, StoredSamples, StoredCells, TraceNumber, PutNumber, ReadNumber}
-use Rattle.sizes.specs.Setup.{held_with}
-use Rattle.trace.specs.Calls.{sizes, Buffers, Put, PutGives, asked, Says, AskGives, ReadGives}
+use Rattle.trace.specs.Calls.{sizes, Buffers, Put, PutGives, Asked, asked, Says, AskGives, ReadGives}
 use Rattle.trace.specs.Upload.{Puts, UploadGives}
 use Rattle.trace.specs.Upload.Puts.{all_taken, one_refused, one_taken}
 use Rattle.trace.specs.Alike.{AlikeTraces, AlikePlaces, AlikeSamples, AlikeCells, AlikeBuffers, AlikeChanges, AlikeUploads}
@@ -183,13 +181,13 @@ module _ (a : Trace) (tols : List ℕ) (agree : Agree a.levels a.tolerances tols
       by_number (PutNumber (sizes (tuned a tols)) d.samples d.table v x) (put_number_one (sizes (tuned a tols)) d.samples d.table v x) r.outcome q.outcome
       (change_carried a tols agree B G.number) H.number done refused
     where
-      done : r.outcome ≡ q.outcome → r.outcome ≡ Done → q.outcome ≡ Done → AlikeChanges r q e f
+      done : r.outcome ≡ q.outcome → r.outcome ≡ Ok tt → q.outcome ≡ Ok tt → AlikeChanges r q e f
       done o h g =
           let p = put_passed (sizes a) b.samples b.table v x (rw h at G.number) in
           changed_alike (held_with a.held v) (held_others a.held v p.3) r q e f
           (put_able a b v x (rw h at G.number)) (put_able (tuned a tols) d v x (rw g at H.number)) (G.done h) (H.done g) o
 
-      refused : r.outcome ≡ q.outcome → (why : Refusal) → r.outcome ≡ Refused why → q.outcome ≡ Refused why → AlikeChanges r q e f
+      refused : r.outcome ≡ q.outcome → (why : Refusal) → r.outcome ≡ Err why → q.outcome ≡ Err why → AlikeChanges r q e f
       refused o w h g =
           let P = G.refused w h in
           let Q = H.refused w g in
@@ -215,7 +213,7 @@ pub puts_unread : {a c : Trace} {b d : Buffers} {zs : List Sample} {r q : Upload
 puts_unread A B all_taken all_taken = record { stop = refl; added = refl; cells = refl; trace = A; lent = B }
 puts_unread A B (one_refused G h) (one_refused H g) =
     let o = next_unread A B G H in
-    record { stop = ap Stop.Refused (refused_one o.outcome h g); added = refl; cells = refl; trace = o.trace; lent = o.lent }
+    record { stop = ap Err (refused_one o.outcome h g); added = refl; cells = refl; trace = o.trace; lent = o.lent }
 puts_unread A B (one_refused G h) (one_taken H g Q) = done_refused g (sym (next_unread A B G H).outcome ∙ h)
 puts_unread A B (one_taken G h P) (one_refused H g) = done_refused h ((next_unread A B G H).outcome ∙ g)
 puts_unread A B (one_taken G h P) (one_taken H g Q) =
@@ -237,11 +235,11 @@ upload_unread a c b d us r q e f u w A B G H = elim (decided _ (lists_decided us
 -- ---- ask
 -- an answer about a stretch says the same where tolerance and samples are the same unless the call is refused
 says_carried : (xs us : Samples) (i j e f : ℕ) (r : Asked) → (asked r ≡ 0 → (e ≡ f) × Same xs us i j) → Says xs i j e r → Says us i j f r
-says_carried xs us i j e f Asked.Yes same s = let g = same refl in permitted_same xs us i j g.1 (rw g.0 at s)
-says_carried xs us i j e f (Asked.No q) same s =
+says_carried xs us i j e f (Ok Yes) same s = let g = same refl in permitted_same xs us i j g.1 (rw g.0 at s)
+says_carried xs us i j e f (Ok (No q)) same s =
     let g = same refl in
     spoiler_carried (λ l a b. (passable_same xs us i j g.1 l a b, passable_same us xs i j (same_back g.1) l a b)) (rw g.0 at s)
-says_carried xs us i j e f (Asked.Refused w) same s = tt
+says_carried xs us i j e f (Err w) same s = tt
 
 pub ask_unread : (a c : Trace) (xs us : Samples) (k i j : ℕ) (r q : Asked) (xs' us' : Samples) → AlikeTraces a c → AlikeSamples a.held xs us
     → AskGives a xs k i j r xs' → AskGives c us k i j q us' → r ≡ q
@@ -259,9 +257,9 @@ ask_unread a c xs us k i j r q xs' us' A X G H =
 module _ (a : Trace) (tols : List ℕ) (agree : Agree a.levels a.tolerances tols) (b d : Buffers) (B : AlikeBuffers a b d) (ranks bytes : List ℕ) (L : length ranks ≡ length bytes)
     (r q : Levels) (e f : Buffers) (ranks' bytes' : List ℕ) (G : ReadGives a b ranks r e ranks') (H : ReadGives (tuned a tols) d bytes q f bytes') where
   abbrev Alike : Type 0
-  Alike = (r ≡ q) × (r.outcome ≡ Done → (x : ℕ) → x < a.held → get_or ranks' x 0 ≡ get_or bytes' x 0)
+  Alike = (r ≡ q) × (r.outcome ≡ Ok tt → (x : ℕ) → x < a.held → get_or ranks' x 0 ≡ get_or bytes' x 0)
 
-  read_done : r.outcome ≡ q.outcome → r.outcome ≡ Done → q.outcome ≡ Done → Alike
+  read_done : r.outcome ≡ q.outcome → r.outcome ≡ Ok tt → q.outcome ≡ Ok tt → Alike
   read_done o h g =
       let p = read_passed (sizes a) b.samples b.table ranks (rw h at G.number) in
       let u = read_passed (sizes (tuned a tols)) d.samples d.table bytes (rw g at H.number) in
@@ -272,7 +270,7 @@ module _ (a : Trace) (tols : List ℕ) (agree : Agree a.levels a.tolerances tols
       (ranks_read d.table a.capacity a.levels a.held z.0 z.1 (omega arith) (omega arith) u.1.cells bytes bytes' q.segments q.total (H.done g)) in
       (levels_same o s.1 s.2, λ t. s.0)
 
-  read_refused : r.outcome ≡ q.outcome → (why : Refusal) → r.outcome ≡ Refused why → q.outcome ≡ Refused why → Alike
+  read_refused : r.outcome ≡ q.outcome → (why : Refusal) → r.outcome ≡ Err why → q.outcome ≡ Err why → Alike
   read_refused o w h g =
       let P = G.refused w h in
       let Q = H.refused w g in
@@ -287,6 +285,6 @@ module _ (a : Trace) (tols : List ℕ) (agree : Agree a.levels a.tolerances tols
 
 -- of the rank buffers only the lengths count
 pub read_unread : (a c : Trace) (b d : Buffers) (ranks bytes : List ℕ) (r q : Levels) (e f : Buffers) (ranks' bytes' : List ℕ) → AlikeTraces a c → AlikeBuffers a b d → length ranks ≡ length bytes
-    → ReadGives a b ranks r e ranks' → ReadGives c d bytes q f bytes' → (r ≡ q) × (r.outcome ≡ Done → (x : ℕ) → x < a.held → get_or ranks' x 0 ≡ get_or bytes' x 0)
+    → ReadGives a b ranks r e ranks' → ReadGives c d bytes q f bytes' → (r ≡ q) × (r.outcome ≡ Ok tt → (x : ℕ) → x < a.held → get_or ranks' x 0 ≡ get_or bytes' x 0)
 read_unread a c b d ranks bytes r q e f ranks' bytes' A B L G H =
     read_tuned a c.tolerances A.tolerances b d B ranks bytes L r q e f ranks' bytes' G (subst (λ z. ReadGives z d bytes q f bytes') (tuned_same A) H)

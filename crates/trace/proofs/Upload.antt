@@ -1,5 +1,5 @@
 -- An upload as the code makes it: its lists, what refuses it before its first sample, and a loop that is some samples on its way. Assumes nothing.
-use mathlib.Core.Path.{◌≡◌, refl, ap, ◌∙◌}
+use mathlib.Core.Path.{◌≡◌, refl, ap}
 use mathlib.Core.Bool.{Bool, true, false, cond}
 use mathlib.Core.List.{List, [], ◌∷◌}
 use Prim.Native.Nat.{ℕ, zero, suc, ◌+◌, ◌*◌, ◌≤◌, ◌<◌}
@@ -7,22 +7,20 @@ use native.Mathlib.Nat.{zero-add, add-zero, add_assoc, mul-le-mul}
 use native.Mathlib.Numerals.{add-one}
 use native.Mathlib.Omega.{arith}
 use lib.IntN.{ℤ, pos}
-use lib.ListN.{length, length-set, get_or, drop, drop_of_length-le}
+use lib.ListN.{length, get_or, drop, drop_of_length-le}
 use lib.Seq.{drop-cons}
 use borrow.Author.Tests.{eqb-true, eqb-false}
 use Rattle.refusal.specs.declared.Refusal.{Refusal}
 use Rattle.refusal.specs.declared.Refusal.TheVariants.{Buffer}
-use Rattle.refusal.specs.declared.Outcome.{Outcome}
-use Rattle.refusal.specs.declared.Outcome.TheVariants.{Done, Refused}
+use Rattle.refusal.specs.Number.{Outcome}
+use Rattle.std.specs.Prelude.{Ok, Err}
 use Rattle.refusal.specs.Check.{unless, and_then, Decides}
-use Rattle.refusal.proofs.Rows.{by_outcome}
 use Rattle.sample.specs.declared.Sample.{Sample}
 use Rattle.sample.specs.Samples.{Samples, sample, samples, sample_at}
 use Rattle.trace.specs.declared.Trace.{Trace}
 use Rattle.trace.specs.declared.Changed.{Changed}
-use Rattle.trace.specs.declared.Stop.TheVariants as Stop
 use Rattle.trace.specs.declared.Uploaded.{Uploaded}
-use Rattle.trace.specs.Calls.{sizes, Buffers, holding, PutGives}
+use Rattle.trace.specs.Calls.{sizes, Buffers, PutGives}
 use Rattle.checks.specs.Numbers.{OneLength}
 use Rattle.trace.specs.Upload.{zipped, uploaded, Puts, UploadGives}
 use Rattle.trace.specs.Upload.Puts.{all_taken, one_refused, one_taken}
@@ -60,17 +58,17 @@ module _ (a : Trace) (b : Buffers) (us : Samples) where
   list = zipped us.across us.up us.marks
 
   abbrev row : Bool → Bool → Outcome
-  row one none = and_then (unless one Buffer) (cond none Done (trace_outcome (sizes a) b.samples b.table))
+  row one none = and_then (unless one Buffer) (cond none (Ok tt) (trace_outcome (sizes a) b.samples b.table))
 
   -- refused, it writes nothing
-  pub upload_stopped : {why : Refusal} → before ≡ Refused why → UploadGives a b us (uploaded (Stop.Refused why) a 0 0) b us
+  pub upload_stopped : {why : Refusal} → before ≡ Err why → UploadGives a b us (uploaded (Err why) a 0 0) b us
   unfolding upload_outcome
   upload_stopped {why} = by _ _ (lists_decided us) (eqb-true (length us.across) 0) (eqb-false (length us.across) 0)
     where
-      by : (one none : Bool) → Decides (OneLength us) one → (none ≡ true → length us.across ≡ 0) → (none ≡ false → length us.across ≡ 0 → ⊥) → row one none ≡ Refused why
-          → UploadGives a b us (uploaded (Stop.Refused why) a 0 0) b us
+      by : (one none : Bool) → Decides (OneLength us) one → (none ≡ true → length us.across ≡ 0) → (none ≡ false → length us.across ≡ 0 → ⊥) → row one none ≡ Err why
+          → UploadGives a b us (uploaded (Err why) a 0 0) b us
       by false none d e f h = record {
-        unequal = λ n. (ap (λ w. uploaded (Stop.Refused w) a 0 0) (refused_one refl h refl), refl);
+        unequal = λ n. (ap (λ w. uploaded (Err w) a 0 0) (refused_one refl h refl), refl);
         puts = λ o. absurd (d.wrong refl o);
         lists = refl;
       }
@@ -79,44 +77,20 @@ module _ (a : Trace) (b : Buffers) (us : Samples) where
         unequal = λ n. absurd (n (d.right refl));
         puts = λ o.
             let some : 0 < length list = omega (arith, zipped_length us.across us.up us.marks o, f refl) in
-            rw (drop-cons list 0 no_sample some) (one_refused (refused_gives {v = a.held} {o = Refused why} (put_stopped (sizes a) b.samples b.table a.held (get_or list 0 no_sample) h) refl) refl);
+            rw (drop-cons list 0 no_sample some) (one_refused (refused_gives {v = a.held} {o = Err why} (put_stopped (sizes a) b.samples b.table a.held (get_or list 0 no_sample) h) refl) refl);
         lists = refl;
       }
 
   -- else its lists have one length, and unless they are empty checks 1 to 5 have passed
-  pub upload_ready : before ≡ Done → OneLength us × (0 < length us.across → Passed (sizes a) b.samples × PassedTable (sizes a) b.table)
+  pub upload_ready : before ≡ Ok tt → OneLength us × (0 < length us.across → Passed (sizes a) b.samples × PassedTable (sizes a) b.table)
   unfolding upload_outcome
   upload_ready = by _ _ (lists_decided us) (eqb-true (length us.across) 0)
     where
-      by : (one none : Bool) → Decides (OneLength us) one → (none ≡ true → length us.across ≡ 0) → row one none ≡ Done
+      by : (one none : Bool) → Decides (OneLength us) one → (none ≡ true → length us.across ≡ 0) → row one none ≡ Ok tt
           → OneLength us × (0 < length us.across → Passed (sizes a) b.samples × PassedTable (sizes a) b.table)
       by false none d e h = done_refused h refl
       by true true d e h = (d.right refl, λ l. absurd (omega (arith, e refl)))
       by true false d e h = (d.right refl, λ l. (trace_passed (sizes a) b.samples b.table).0 h)
-
--- ---- a put leaves every buffer as long as it was
-pub record SameRoom (b e : Buffers) : Type 0 where
-  pub across : length e.samples.across ≡ length b.samples.across
-  pub up : length e.samples.up ≡ length b.samples.up
-  pub marks : length e.samples.marks ≡ length b.samples.marks
-  pub table : length e.table ≡ length b.table
-
-pub put_room : {a : Trace} {b e : Buffers} {v : ℕ} {x : Sample} {r : Changed} → PutGives a b v x r e → SameRoom b e
-put_room {b = b} {v = v} {x = x} {r = r} G =
-    by_outcome r.outcome
-    (λ d.
-    let s = b.samples in
-    let P = G.done d in
-    record {
-      across = rw P.samples (length-set s.across v x.across);
-      up = rw P.samples (length-set s.up v x.up);
-      marks = rw P.samples (length-set s.marks v x.mark);
-      table = P.cells.same;
-    })
-    (λ w h. let e = (G.refused w h).lent in record { across = rw e; up = rw e; marks = rw e; table = rw e })
-
-room_on : {b d e : Buffers} → SameRoom b d → SameRoom d e → SameRoom b e
-room_on R S = record { across = S.across ∙ R.across; up = S.up ∙ R.up; marks = S.marks ∙ R.marks; table = S.table ∙ R.table }
 
 -- ---- on its way: i samples are put with so many cells, and from a and b they led to c and d. Whatever the other samples then lead to, all of them lead to
 abbrev more : ℕ → ℕ → Uploaded → Uploaded
@@ -126,7 +100,6 @@ pub record Underway (a : Trace) (b : Buffers) (zs : List Sample) (i cells : ℕ)
   pub leads : (q : Uploaded) (e : Buffers) → Puts c d (drop i zs) q e → Puts a b zs (more i cells q) e
   pub within : i ≤ c.held
   pub few : cells ≤ 4096 * i
-  pub room : SameRoom b d
   pub ready : i < length zs → Passed (sizes c) d.samples × PassedTable (sizes c) d.table
 
 pub underway_none : {a : Trace} {b : Buffers} {zs : List Sample} → (0 < length zs → Passed (sizes a) b.samples × PassedTable (sizes a) b.table) → Underway a b zs 0 0 a b
@@ -134,36 +107,31 @@ underway_none h = record {
   leads = λ q e P. rw (zero-add q.added, zero-add q.cells) P;
   within = omega arith;
   few = omega arith;
-  room = record { across = refl; up = refl; marks = refl; table = refl };
   ready = h;
 }
 
 module _ {a c : Trace} {b d : Buffers} {zs : List Sample} {i cells : ℕ} (U : Underway a b zs i cells c d) where
   -- no sample is left
-  pub underway_ends : length zs ≤ i → Puts a b zs (uploaded Stop.AllTaken c i cells) d
-  underway_ends h = rw (add-zero i, add-zero cells) at (U.leads (uploaded Stop.AllTaken c 0 0) d (rw (drop_of_length-le zs h) all_taken))
+  pub underway_ends : length zs ≤ i → Puts a b zs (uploaded (Ok tt) c i cells) d
+  underway_ends h = rw (add-zero i, add-zero cells) at (U.leads (uploaded (Ok tt) c 0 0) d (rw (drop_of_length-le zs h) all_taken))
 
   module _ (l : i < length zs) {r : Changed} {f : Buffers} (G : PutGives c d c.held (get_or zs i no_sample) r f) where
     -- the next is refused
-    pub underway_stops : {t : Trace} {why : Refusal} → t ≡ c → r.outcome ≡ Refused why → Puts a b zs (uploaded (Stop.Refused why) t i cells) f
-    underway_stops {why = why} e h =
-        rw e (rw (add-zero i, add-zero cells, (G.refused why h).trace) at (U.leads (uploaded (Stop.Refused why) r.trace 0 0) f (rw (drop-cons zs i no_sample l) (one_refused G h))))
+    pub underway_stops : {why : Refusal} → r.outcome ≡ Err why → Puts a b zs (uploaded (Err why) c i cells) f
+    underway_stops {why = why} h =
+        rw (add-zero i, add-zero cells, (G.refused why h).trace) at (U.leads (uploaded (Err why) r.trace 0 0) f (rw (drop-cons zs i no_sample l) (one_refused G h)))
 
     -- or it is put
-    module _ (h : r.outcome ≡ Done) where
+    module _ (h : r.outcome ≡ Ok tt) where
       pub next_few : r.cells ≤ 4096
       next_few =
           let p = put_passed (sizes c) d.samples d.table c.held (get_or zs i no_sample) (rw h at G.number) in
           omega (arith, added_cells c d c.held _ r f G h refl, mul-le-mul {n₁ = c.levels} {m₁ = c.held} {n₂ = 16} {m₂ = 256} p.0.sized.1 (omega (arith, p.4, p.0.sized.3)))
 
-      pub underway_more : Underway a b zs (i + 1) (cells + r.cells) (holding c (c.held + 1)) f
-      underway_more =
-          let e = (put_adds c d c.held _ r f G h refl).trace in
-          let next : Underway a b zs (i + 1) (cells + r.cells) r.trace f = record {
-            leads = λ q e P. rw (let h : i + 1 + q.added ≡ i + suc q.added = omega arith in h, add_assoc cells r.cells q.cells) (U.leads _ e (rw (drop-cons zs i no_sample l) (one_taken G h (rw (add-one i) at P))));
-            within = rw e (omega (arith, U.within));
-            few = omega (arith, U.few, next_few);
-            room = room_on U.room (put_room G);
-            ready = λ m. put_keeps (rw h at G.number) (G.done h);
-          } in
-          rw e at next
+      pub underway_more : Underway a b zs (i + 1) (cells + r.cells) r.trace f
+      underway_more = record {
+        leads = λ q e P. rw (let h : i + 1 + q.added ≡ i + suc q.added = omega arith in h, add_assoc cells r.cells q.cells) (U.leads _ e (rw (drop-cons zs i no_sample l) (one_taken G h (rw (add-one i) at P))));
+        within = rw (put_adds c d c.held _ r f G h refl).trace (omega (arith, U.within));
+        few = omega (arith, U.few, next_few);
+        ready = λ m. put_keeps (rw h at G.number) (G.done h);
+      }

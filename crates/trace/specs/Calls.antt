@@ -1,22 +1,19 @@
 -- What each call gives and leaves: its number, its answer, and every lent buffer after the call. Assumes nothing.
-use Rattle.std.specs.Prelude.{◌≡◌, List, ℕ, ◌-◌, get_or, replicate}
+use Rattle.std.specs.Prelude.{◌≡◌, List, ℕ, ◌-◌, get_or, replicate, Ok, Err, Result}
 use Rattle.refusal.specs.declared.Refusal.{Refusal}
-use Rattle.refusal.specs.declared.Outcome.TheVariants.{Done, Refused}
 use Rattle.refusal.specs.Number.{number, code}
-use Rattle.geometry.specs.Near.{Passable, Permitted}
+use Rattle.geometry.specs.declared.Verdict.{Verdict}
+use Rattle.geometry.specs.Spoiler.{Says as VerdictSays}
 use Rattle.sample.specs.declared.Sample.{Sample}
 use Rattle.sample.specs.Samples.{Samples, store}
-use Rattle.geometry.specs.Spoiler.{Spoiler}
 use Rattle.sizes.specs.declared.Sizes.{Sizes}
 use Rattle.sizes.specs.Setup.{kept, held_with}
 use Rattle.checks.specs.Numbers.{StartNumber, PutNumber, AskNumber, ReadNumber}
-use Rattle.costs.specs.Costs.{Permit}
-use Rattle.costs.specs.Costs.{CellsWritten, named}
+use Rattle.costs.specs.Costs.{Permit, CellsWritten, named}
 use Rattle.readout.specs.Read.{RanksRead}
 use Rattle.trace.specs.declared.Trace.{Trace}
 use Rattle.trace.specs.declared.Started.{Started}
 use Rattle.trace.specs.declared.Changed.{Changed}
-use Rattle.trace.specs.declared.Asked.{Asked}
 use Rattle.trace.specs.declared.Levels.{Levels}
 
 -- what the checks know of a trace
@@ -32,8 +29,8 @@ no_trace = record { levels = 0; capacity = 0; held = 0; tolerances = replicate 1
 
 pub record StartGives (m N : ℕ) (tols : List ℕ) (r : Started) : Type 0 where
   pub number : StartNumber m N tols (code r.outcome)
-  pub done : r.outcome ≡ Done → r.trace ≡ empty_trace m N tols
-  pub refused : (why : Refusal) → r.outcome ≡ Refused why → r.trace ≡ no_trace
+  pub done : r.outcome ≡ Ok tt → r.trace ≡ empty_trace m N tols
+  pub refused : (why : Refusal) → r.outcome ≡ Err why → r.trace ≡ no_trace
 
 -- ---- put
 -- the buffers that are lent
@@ -64,21 +61,23 @@ pub record NotPut (a : Trace) (b : Buffers) (r : Changed) (e : Buffers) : Type 0
 -- a sample is put at place v
 pub record PutGives (a : Trace) (b : Buffers) (v : ℕ) (x : Sample) (r : Changed) (e : Buffers) : Type 0 where
   pub number : PutNumber (sizes a) b.samples b.table v x (code r.outcome)
-  pub done : r.outcome ≡ Done → Put a b v (held_with a.held v) x r e
-  pub refused : (why : Refusal) → r.outcome ≡ Refused why → NotPut a b r e
+  pub done : r.outcome ≡ Ok tt → Put a b v (held_with a.held v) x r e
+  pub refused : (why : Refusal) → r.outcome ≡ Err why → NotPut a b r e
 
 -- ---- ask
+-- yes or no, or the refusal
+abbrev pub Asked : Type 0
+Asked = Result Verdict Refusal
+
 -- the paper's number of an answer, 0 for a yes and for a no
 abbrev pub asked : Asked → ℕ
-asked Asked.Yes = 0
-asked (Asked.No q) = 0
-asked (Asked.Refused why) = number why
+asked (Ok verdict) = 0
+asked (Err why) = number why
 
--- what an answer says of the stretch (i, j) at a tolerance: yes that it is permitted, no that q is the lowest sample that is marked or lies too far away, a refusal neither
+-- what an answer says of the stretch (i, j) at a tolerance: yes that it is permitted, no with q that q is the lowest sample that is marked or lies too far away, a refusal neither
 abbrev pub Says : Samples → ℕ → ℕ → ℕ → Asked → Type 0
-Says xs i j e Asked.Yes = Permitted xs i j e
-Says xs i j e (Asked.No q) = Spoiler (Passable xs i j e) i j q
-Says xs i j e (Asked.Refused why) = Unit {0}
+Says xs i j e (Ok verdict) = VerdictSays xs i j e verdict
+Says xs i j e (Err why) = Unit {0}
 
 pub record AskGives (a : Trace) (xs : Samples) (k i j : ℕ) (r : Asked) (xs' : Samples) : Type 0 where
   pub number : AskNumber (sizes a) xs k i j (asked r)
@@ -94,6 +93,6 @@ pub record NotRead (ranks : List ℕ) (r : Levels) (ranks' : List ℕ) : Type 0 
 
 pub record ReadGives (a : Trace) (b : Buffers) (ranks : List ℕ) (r : Levels) (e : Buffers) (ranks' : List ℕ) : Type 0 where
   pub number : ReadNumber (sizes a) b.samples b.table ranks (code r.outcome)
-  pub done : r.outcome ≡ Done → RanksRead b.table a.capacity a.levels a.held ranks ranks' r.segments r.total
-  pub refused : (why : Refusal) → r.outcome ≡ Refused why → NotRead ranks r ranks'
+  pub done : r.outcome ≡ Ok tt → RanksRead b.table a.capacity a.levels a.held ranks ranks' r.segments r.total
+  pub refused : (why : Refusal) → r.outcome ≡ Err why → NotRead ranks r ranks'
   pub lent : e ≡ b

@@ -2,6 +2,7 @@
 #![tactic(auto)]
 
 ghost use Rattle.std.specs.Prelude.{◌≡◌, ◌<◌, length};
+ghost use Rattle.sample.specs.Lent.{lent};
 ghost use Rattle.sample.specs.Samples.{samples};
 ghost use Rattle.checks.specs.Numbers.{OneLength};
 ghost use Rattle.checks.specs.Rows.{trace_outcome, Passed, PassedTable};
@@ -9,9 +10,11 @@ ghost use Rattle.trace.specs.Calls.{sizes, buffers, holding, StartGives, PutGive
 ghost use Rattle.trace.specs.Upload.{zipped, Puts, UploadGives};
 
 use geometry::Verdict;
-use refusal::{Outcome, Refusal, and_then};
-use sample::Sample;
+use readout::Segments;
+use refusal::{Outcome, Refusal};
+use sample::{Lent, Sample};
 use sizes::Sizes;
+use table::Table;
 
 // A trace's setup: levels m, capacity N, samples held n, and the tolerances of levels 1 to m; those past m are never read.
 #[derive(Clone, Copy)]
@@ -37,28 +40,13 @@ pub struct Changed {
     pub cells: usize,
 }
 
-// Why an upload stopped: all its samples were taken, or the first that was not was refused so.
-#[derive(Clone, Copy)]
-pub enum Stop {
-    AllTaken,
-    Refused(Refusal),
-}
-
-// What upload gives: why it stopped, the trace then, how many samples were added, and the count of cells written.
+// What upload gives: why it stopped, Ok where all its samples were taken, else the refusal of the first that was not; the trace then, how many samples were added, and the count of cells written.
 #[derive(Clone, Copy)]
 pub struct Uploaded {
-    pub stop: Stop,
+    pub stop: Outcome,
     pub trace: Trace,
     pub added: usize,
     pub cells: usize,
-}
-
-// Whether a stretch is permitted: yes, or no with the lowest sample that is marked or lies too far away.
-#[derive(Clone, Copy)]
-pub enum Asked {
-    Yes,
-    No(usize),
-    Refused(Refusal),
 }
 
 // What read gives: the segments of each level, zero past m, and their total; refused, zeros.
@@ -97,11 +85,16 @@ impl Trace {
     fn sizes(self) -> Sizes
         ensures { result ≡ sizes self }
     {
-        let tolerances = self.tolerances;
+        let Trace {
+            levels,
+            capacity,
+            held,
+            tolerances,
+        } = self;
         Sizes {
-            levels: self.levels,
-            capacity: self.capacity,
-            held: self.held,
+            levels,
+            capacity,
+            held,
             tolerances,
         }
     }
@@ -110,9 +103,7 @@ impl Trace {
     fn holding(self, n: usize) -> Trace
         ensures { result ≡ holding self n }
     {
-        let mut next = self;
-        next.held = n;
-        next
+        Trace { held: n, ..self }
     }
 
     // put, after checks 1 to 5 and by what they said: the sample is checked, and the trace is changed.
@@ -130,10 +121,10 @@ impl Trace {
         ensures { PutGives self (buffers (samples xs.old ys.old marks.old) table.old) v sample result (buffers (samples xs.new ys.new marks.new) table.new) }
     {
         let own = checks::sample_outcome(self.sizes(), v, sample);
-        let o = and_then(first, own);
-        let Outcome::Done = o else {
+        let outcome = first.and(own);
+        let Ok(()) = outcome else {
             return Changed {
-                outcome: o,
+                outcome,
                 trace: self,
                 cells: 0,
             };
@@ -141,7 +132,7 @@ impl Trace {
         let next = self.holding(sizes::held_with(self.held, v));
         let cells = change::change(next.sizes(), xs, ys, marks, table, v, sample);
         Changed {
-            outcome: Outcome::Done,
+            outcome,
             trace: next,
             cells,
         }
@@ -154,39 +145,30 @@ impl Trace {
         ys: &mut [i16],
         marks: &mut [u8],
         table: &mut [u16],
-        across: &[i16],
-        up: &[i16],
-        restarts: &[u8],
+        lists: Lent<'_>,
     ) -> Uploaded
-        requires { OneLength (samples across.now up.now restarts.now) × (0 < length across.now → Passed (sizes self) (samples xs.old ys.old marks.old) × PassedTable (sizes self) table.old) }
-        ensures puts { Puts self (buffers (samples xs.old ys.old marks.old) table.old) (zipped across.now up.now restarts.now) result (buffers (samples xs.new ys.new marks.new) table.new) }
-        ensures restarts_value { samples across.now up.now restarts.now ≡ samples across.now up.now restarts.now }
+        requires { OneLength (lent lists) × (0 < length lists.across.now → Passed (sizes self) (samples xs.old ys.old marks.old) × PassedTable (sizes self) table.old) }
+        ensures { Puts self (buffers (samples xs.old ys.old marks.old) table.old) (zipped lists.entry.across.now lists.entry.up.now lists.entry.marks.now) result (buffers (samples xs.new ys.new marks.new) table.new) }
     {
-        let mut held = self.held;
+        let mut trace = self;
         let mut cells = 0;
-        let mut i = 0;
-        while i < across.len() {
-            let sample = sample::sample_at(across, up, restarts, i);
-            let trace = self.holding(held);
-            let next = trace.admit(Outcome::Done, xs, ys, marks, table, held, sample);
-            let after = i + 1;
-            let o = next.outcome;
-            if let Outcome::Refused(why) = o {
+        for i in 0..lists.across.len() {
+            let next = trace.admit(Ok(()), xs, ys, marks, table, trace.held, lists.at(i));
+            let Ok(()) = next.outcome else {
                 return Uploaded {
-                    stop: Stop::Refused(why),
+                    stop: next.outcome,
                     trace,
                     added: i,
                     cells,
                 };
-            }
-            held += 1;
+            };
+            trace = next.trace;
             cells += next.cells;
-            i = after;
         }
         Uploaded {
-            stop: Stop::AllTaken,
-            trace: self.holding(held),
-            added: i,
+            stop: Ok(()),
+            trace,
+            added: lists.across.len(),
             cells,
         }
     }
@@ -195,10 +177,10 @@ impl Trace {
     pub fn start(levels: usize, capacity: usize, tolerances: [u32; 16]) -> Started
         ensures { StartGives levels capacity tolerances result }
     {
-        let o = sizes::setup_outcome(levels, capacity, tolerances);
-        let Outcome::Done = o else {
+        let outcome = sizes::setup_outcome(levels, capacity, tolerances);
+        let Ok(()) = outcome else {
             return Started {
-                outcome: o,
+                outcome,
                 trace: Trace {
                     levels: 0,
                     capacity: 0,
@@ -207,14 +189,13 @@ impl Trace {
                 },
             };
         };
-        let tolerances = sizes::keep(levels, tolerances);
         Started {
-            outcome: o,
+            outcome,
             trace: Trace {
                 levels,
                 capacity,
                 held: 0,
-                tolerances,
+                tolerances: sizes::keep(levels, tolerances),
             },
         }
     }
@@ -231,8 +212,13 @@ impl Trace {
     ) -> Changed
         ensures { PutGives self (buffers (samples xs.old ys.old marks.old) table.old) v sample result (buffers (samples xs.new ys.new marks.new) table.new) }
     {
-        let o = checks::trace_outcome(self.sizes(), xs, ys, marks, table);
-        self.admit(o, xs, ys, marks, table, v, sample)
+        let held = Lent {
+            across: xs,
+            up: ys,
+            marks,
+        };
+        let first = checks::trace_outcome(self.sizes(), held, table);
+        self.admit(first, xs, ys, marks, table, v, sample)
     }
 
     // The samples of three lists, each put at the end, up to the first refused; those before it stay. Empty lists check nothing.
@@ -242,66 +228,56 @@ impl Trace {
         ys: &mut [i16],
         marks: &mut [u8],
         table: &mut [u16],
-        across: &[i16],
-        up: &[i16],
-        restarts: &[u8],
+        lists: Lent<'_>,
     ) -> Uploaded
-        ensures { UploadGives self (buffers (samples xs.old ys.old marks.old) table.old) (samples across.now up.now restarts.now) result (buffers (samples xs.new ys.new marks.new) table.new) (samples across.now up.now restarts.now) }
+        ensures { UploadGives self (buffers (samples xs.old ys.old marks.old) table.old) (lent lists.entry) result (buffers (samples xs.new ys.new marks.new) table.new) (lent lists.entry) }
     {
-        let lists = checks::lengths_of(across, up, restarts);
-        let o = checks::upload_outcome(self.sizes(), xs, ys, marks, table, lists);
-        if let Outcome::Refused(why) = o {
+        let held = Lent {
+            across: xs,
+            up: ys,
+            marks,
+        };
+        let stop = checks::upload_outcome(self.sizes(), held, table, checks::lengths_of(lists));
+        let Ok(()) = stop else {
             return Uploaded {
-                stop: Stop::Refused(why),
+                stop,
                 trace: self,
                 added: 0,
                 cells: 0,
             };
-        }
-        self.add_each(xs, ys, marks, table, across, up, restarts)
+        };
+        self.add_each(xs, ys, marks, table, lists)
     }
 
-    // Whether the stretch from sample i to sample j is permitted at level k.
-    pub fn ask(self, xs: &[i16], ys: &[i16], marks: &[u8], k: usize, i: usize, j: usize) -> Asked
-        ensures { AskGives self (samples xs.now ys.now marks.now) k i j result (samples xs.now ys.now marks.now) }
+    // Whether the stretch from sample i to sample j is permitted at level k: yes, or no with the lowest sample that is marked or lies too far away.
+    pub fn ask(self, samples: Lent<'_>, k: usize, i: usize, j: usize) -> Result<Verdict, Refusal>
+        ensures { AskGives self (lent samples.entry) k i j result (lent samples.entry) }
     {
-        let o = checks::ask_outcome(self.sizes(), xs, ys, marks, k, i, j);
-        if let Outcome::Refused(why) = o {
-            return Asked::Refused(why);
-        }
-        let tolerances = self.tolerances;
-        let verdict = geometry::permitted(xs, ys, marks, i, j, tolerances[k - 1]);
-        match verdict {
-            Verdict::Yes => Asked::Yes,
-            Verdict::No(spoiler) => Asked::No(spoiler),
-        }
+        checks::ask_outcome(self.sizes(), samples, k, i, j)?;
+        Ok(geometry::permitted(samples, i, j, self.tolerances[k - 1]))
     }
 
     // Write the ranks of the samples held, and count the segments of each level.
-    pub fn read(
-        self,
-        xs: &[i16],
-        ys: &[i16],
-        marks: &[u8],
-        table: &[u16],
-        ranks: &mut [u8],
-    ) -> Levels
-        ensures { ReadGives self (buffers (samples xs.now ys.now marks.now) table.now) ranks.old result (buffers (samples xs.now ys.now marks.now) table.now) ranks.new }
+    pub fn read(self, samples: Lent<'_>, table: &[u16], ranks: &mut [u8]) -> Levels
+        ensures { ReadGives self (buffers (lent samples.entry) table.now) ranks.old result (buffers (lent samples.entry) table.now) ranks.new }
     {
-        let o = checks::read_outcome(self.sizes(), xs, ys, marks, table, ranks.len());
-        let Outcome::Done = o else {
+        let outcome = checks::read_outcome(self.sizes(), samples, table, ranks.len());
+        let Ok(()) = outcome else {
             return Levels {
-                outcome: o,
+                outcome,
                 segments: [0; 16],
                 total: 0,
             };
         };
-        let s = readout::read(table, ranks, self.capacity, self.levels, self.held);
-        let segments = s.per;
+        let costs = Table {
+            cells: table,
+            capacity: self.capacity,
+        };
+        let Segments { per, total } = readout::read(costs, ranks, self.levels, self.held);
         Levels {
-            outcome: o,
-            segments,
-            total: s.total,
+            outcome,
+            segments: per,
+            total,
         }
     }
 }

@@ -1,5 +1,5 @@
 // Whole numbers of several bytes in a buffer, low byte first.
-#![tactic(auto)]
+#![tactic(auto, unfolding(crate::specs::Word::word, crate::specs::Word::long, crate::specs::Word::signed, crate::specs::Word::signed_at))]
 
 ghost use Rattle.std.specs.Prelude.{◌≡◌, ◌+◌, ◌<◌, length};
 ghost use Rattle.words.specs.Word.{word, long, signed, signed_at};
@@ -9,9 +9,7 @@ pub fn word_at(s: &[u8], p: usize) -> u16
     requires { p + 1 < length s.now }
     ensures { result ≡ word s.now p }
 {
-    let low = s[p];
-    let high = s[p + 1];
-    low as u16 + 256 * (high as u16)
+    u16::from_le_bytes([s[p], s[p + 1]])
 }
 
 // Four bytes from place p.
@@ -19,20 +17,14 @@ pub fn long_at(s: &[u8], p: usize) -> u32
     requires { p + 3 < length s.now }
     ensures { result ≡ long s.now p }
 {
-    let low = word_at(s, p);
-    let high = word_at(s, p + 2);
-    low as u32 + 65536 * (high as u32)
+    u32::from_le_bytes([s[p], s[p + 1], s[p + 2], s[p + 3]])
 }
 
 // 16 bits as a signed number.
 pub fn from_bits(u: u16) -> i16
     ensures { result ≡ signed u }
 {
-    if u < 32768 {
-        u as i16
-    } else {
-        -1 - ((65535 - u) as i16)
-    }
+    u.cast_signed()
 }
 
 // Two bytes from place p as a signed number.
@@ -40,5 +32,5 @@ pub fn signed_at(s: &[u8], p: usize) -> i16
     requires { p + 1 < length s.now }
     ensures { result ≡ signed_at s.now p }
 {
-    from_bits(word_at(s, p))
+    i16::from_le_bytes([s[p], s[p + 1]])
 }

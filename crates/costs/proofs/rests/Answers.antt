@@ -3,7 +3,6 @@ use mathlib.Core.Path.{◌∙◌}
 use Prim.Native.Nat.{◌-◌}
 use native.Mathlib.Omega.{arith}
 use Rattle.family.specs.Family.{below}
-use Rattle.table.proofs.Address.{room_below}
 use Rattle.table.proofs.Stops.{zeros}
 use Rattle.costs.proofs.Sums.{below_is}
 use Rattle.costs.proofs.rests.Goals as goal
@@ -11,13 +10,6 @@ use Rattle.costs.proofs.rests.Goals as goal
 pub returns-then-k-eq1 : goal.returns-then-k-eq1
 unfolding below
 returns-then-k-eq1 c = λ q h. rw c.if-k-eq1.true (zeros 256 q)
-
-pub sums_to-requires : goal.sums_to-requires
-sums_to-requires c =
-    record {
-      le_k = omega arith;
-      cap_in_bounds = room_below _ _ c.args.k _ (omega arith) c.requires.cap_in_bounds;
-    }
 
 pub returns : goal.returns
 returns c =

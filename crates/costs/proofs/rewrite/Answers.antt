@@ -3,7 +3,7 @@ use mathlib.Core.Path.{◌≡◌, sym}
 use Prim.Native.Nat.{◌+◌, min}
 use native.Mathlib.Omega.{arith}
 use native.Mathlib.Nat.{mul-le-mul}
-use Rattle.sample.specs.Samples.{samples}
+use Rattle.sample.specs.Lent.{lent}
 use Rattle.permission.specs.Finest.{perm}
 use Rattle.sample.proofs.Coordinate.{fewer_ranged}
 use Rattle.permission.proofs.Perm.{perm_adjacent}
@@ -13,7 +13,7 @@ use Rattle.costs.proofs.Tally.{named_none, named_more, named_small}
 use Rattle.costs.proofs.rewrite.Goals as goal
 
 pub loop-j-init : goal.loop-j-init
-loop-j-init c = (ends_none _ _ _ _ _, omega arith, omega arith, sym (named_none _ _))
+loop-j-init c = (ends_none _ _ _ _ _, sym (named_none _ _))
 
 pub write_end-count-requires : goal.write_end-count-requires
 write_end-count-requires c =
@@ -21,7 +21,7 @@ write_end-count-requires c =
     let p = c.requires in record {
       le_levels = (omega arith, omega arith, omega arith, omega arith, omega arith, p.le_levels.5);
       ranged = (fewer_ranged (omega arith) p.ranged.0, omega arith, rw c.loop-j.invariant.0.same p.ranged.2);
-      settled = ends_settled a.s.capacity (perm (samples a.xs.now a.ys.now a.marks.now) a.s.tolerances) (perm_adjacent _ _) a.s.levels a.v a.s.held c.loop-j.j a.table.now c.loop-j.table (omega arith) (omega arith) p.low_steps c.loop-j.invariant.0;
+      settled = ends_settled a.s.capacity (perm (lent a.samples) a.s.tolerances) (perm_adjacent _ _) a.s.levels a.v a.s.held c.loop-j.j a.table.now c.loop-j.table (omega arith) (omega arith) p.low_steps c.loop-j.invariant.0;
     }
 
 pub overflow_add-count : goal.overflow_add-count
@@ -29,7 +29,7 @@ overflow_add-count c =
     let a = c.args in
     omega (
       arith,
-      c.loop-j.invariant.3,
+      c.loop-j.invariant.1,
       c.write_end-count.ensures.value,
       named_small a.s.levels a.v c.loop-j.j (omega arith) (omega arith) (omega arith),
       mul-le-mul {n₁ = a.s.levels} {m₁ = min c.loop-j.j (a.v + 1)} {n₂ = 16} {m₂ = 256} (omega arith) (omega arith),
@@ -39,20 +39,12 @@ pub loop-j-preserved : goal.loop-j-preserved
 loop-j-preserved c =
     let a = c.args in
     let done = c.write_end-count.ensures in (
-      ends_more a.s.capacity (perm (samples a.xs.now a.ys.now a.marks.now) a.s.tolerances) a.s.levels a.v a.table.now c.loop-j.j c.loop-j.table _ (omega arith) (omega arith) c.loop-j.invariant.0 done.rewritten,
-      omega arith,
-      omega arith,
-      rw (c.loop-j.invariant.3, done.value) (named_more a.s.levels a.v c.loop-j.j (omega arith)),
+      ends_more a.s.capacity (perm (lent a.samples) a.s.tolerances) a.s.levels a.v a.table.now c.loop-j.j c.loop-j.table _ (omega arith) (omega arith) c.loop-j.invariant.0 done.rewritten,
+      rw (c.loop-j.invariant.1, done.value) (named_more a.s.levels a.v c.loop-j.j (omega arith)),
     )
-
-pub shape_of-table : goal.shape_of-table
-shape_of-table c = c.loop-j.invariant.0.same
 
 pub returns : goal.returns
 returns c =
     let h = c.loop-j.invariant in
     let e : c.loop-j.j ≡ c.args.s.held = omega arith in
-    record {
-      value = rw e at h.3;
-      rewritten = rw e at h.0;
-    }
+    record { value = rw e at h.1; rewritten = rw e at h.0 }

@@ -1,7 +1,7 @@
 -- `geometry::permitted` meets its contract. Assumes nothing.
 use mathlib.Core.Logic.{⊎_elim}
 use native.Mathlib.Omega.{arith}
-use Rattle.sample.specs.Samples.{samples}
+use Rattle.sample.specs.Lent.{lent}
 use Rattle.geometry.proofs.Marks.{far_first, marked_first, none_marked}
 use Rattle.geometry.proofs.permitted.Goals as goal
 
@@ -18,16 +18,15 @@ pub returns-in_default : goal.returns-in_default
 returns-in_default c =
     let a = c.args in
     let g = c.in_default.is in
-    rw g (far_first (samples a.xs.now a.ys.now a.marks.now) a.i a.j a.e c.first_marked-first.ensures (rw g at c.judge-verdict.ensures))
+    rw g (far_first (lent a.samples) a.i a.j a.e c.first_marked-first.ensures (rw g at c.judge-verdict.ensures))
 
 pub returns-then-first-j : goal.returns-then-first-j
 returns-then-first-j c =
     let a = c.args in
-    marked_first (samples a.xs.now a.ys.now a.marks.now) a.i a.j a.e c.first_marked-first.ensures (omega arith)
-    (rw c.in-Yes.is at c.judge-verdict.ensures)
+    marked_first (lent a.samples) a.i a.j a.e c.first_marked-first.ensures (omega arith) (rw c.in-Yes.is at c.judge-verdict.ensures)
 
 pub returns : goal.returns
 returns c =
     let a = c.args in
-    none_marked (samples a.xs.now a.ys.now a.marks.now) a.i a.j a.e c.first_marked-first.ensures (omega arith)
-    (rw c.in-Yes.is at c.judge-verdict.ensures)
+    let g = c.in-Yes.is in
+    rw g (none_marked (lent a.samples) a.i a.j a.e c.first_marked-first.ensures (omega arith) (rw g at c.judge-verdict.ensures))

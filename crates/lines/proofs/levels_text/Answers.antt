@@ -1,10 +1,9 @@
 -- `lines::levels_text` meets its contract: one line, or some, after another. Assumes nothing.
-use Rattle.text.proofs.Written.{written_more}
-use Rattle.lines.specs.Held.{held_lines}
+use Rattle.std.proofs.Common.{rules}
+use Rattle.text.proofs.Written.{writes_more}
 use Rattle.lines.proofs.levels_text.Goals as goal
 
 pub returns : goal.returns
 returns c =
-    let a = c.args in
-    let samples = written_more {u = held_lines a.xs.now a.ys.now a.ranks.now a.n} c.counts_line-at.ensures c.sample_lines-at.ensures in
-    written_more (written_more samples c.segments_line-at.ensures) c.pause_line.ensures
+    let w = (writes_more (writes_more (writes_more c.counts_line.ensures c.sample_lines.ensures) c.segments_line.ensures) c.pause_line.ensures).written in
+    search rules

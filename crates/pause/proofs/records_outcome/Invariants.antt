@@ -1,11 +1,8 @@
 -- `pause::records_outcome` meets its contract. The loop's invariant: no record passed is refused. Assumes nothing.
-use Rattle.std.proofs.Common.{◌≡◌, ◌-◌, ◌≤◌}
-use Rattle.refusal.specs.declared.Outcome.TheVariants.{Done}
+use Rattle.std.proofs.Common.{◌≡◌}
+use Rattle.std.specs.Prelude.{Ok}
 use Rattle.pause.specs.Pause.{records_outcome}
 use Rattle.pause.proofs.records_outcome.Given as goal
 
 abbrev pub invariant-loop-i : goal.invariant-loop-i
-invariant-loop-i l = (l.i ≤ l.n) × (records_outcome l.s l.i ≡ Done)
-
-abbrev pub decreases-loop-i : goal.decreases-loop-i
-decreases-loop-i l = l.n - l.i
+invariant-loop-i l = records_outcome l.s l.i ≡ Ok tt

@@ -1,14 +1,12 @@
--- `permission::finests` meets its contract. The loop's invariant: the levels of the starts from i on, and m + 1 before i. Assumes nothing.
+-- `permission::finests` meets its contract. The loop's invariant: the levels of the starts before i that are not before the last marked sample, and m + 1 before it. Assumes nothing.
 use mathlib.Core.Path.{◌≡◌}
 use Prim.Native.Nat.{ℕ, ◌+◌, ◌≤◌, ◌<◌}
 use lib.ListN.{length, get_or}
-use Rattle.sample.specs.Samples.{samples}
+use Rattle.sample.specs.Lent.{lent}
 use Rattle.permission.specs.Finest.{perm, Finest}
 use Rattle.permission.proofs.finests.Given as goal
 
 abbrev pub invariant-loop-i : goal.invariant-loop-i
 invariant-loop-i l =
-    ((q : ℕ) → l.i ≤ q → q < l.top → Finest (perm (samples l.xs l.ys l.marks) l.tolerances) l.m q l.j (get_or l.levels q 0)) × ((q : ℕ) → q < l.i → get_or l.levels q 0 ≡ l.m + 1) × (l.i ≤ l.top) × (length l.levels ≡ 256)
-
-abbrev pub decreases-loop-i : goal.decreases-loop-i
-decreases-loop-i l = l.i
+    let a = l.fn in
+    ((q : ℕ) → q < l.i → l.last ≤ q → Finest (perm (lent a.samples) a.tolerances) a.m q a.j (get_or l.levels q 0)) × ((q : ℕ) → q < l.last → get_or l.levels q 0 ≡ a.m + 1) × (l.last ≤ l.i) × (length l.levels ≡ 256)

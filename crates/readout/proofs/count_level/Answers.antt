@@ -1,23 +1,13 @@
--- `readout::count_level` meets its contract. The loop's invariant: the segments up to x are counted. Assumes nothing.
-use mathlib.Core.Path.{◌≡◌, ◌∙◌, sym, ap}
-use Prim.Native.Nat.{◌-◌}
-use native.Mathlib.Omega.{arith}
-use Rattle.family.specs.Family.{segments}
-use Rattle.family.proofs.Counts.{segments_nil}
-use Rattle.readout.specs.Read.{rank}
-use Rattle.readout.proofs.Count.{segments_in, segments_out}
+-- `readout::count_level` meets its contract. Assumes nothing.
+use Rattle.std.proofs.Common.{◌≡◌, ◌-◌, ◌∙◌, rules, arith, length, take, drop}
+use Rattle.std.proofs.lemmas.Grind.{common_steps}
+use Rattle.std.proofs.lemmas.List.Sums.{count_by-le-length}
+use lib.Dec.{leb}
+use Rattle.std.specs.List.{count_by}
+use Rattle.readout.proofs.Count.{segments_by}
 use Rattle.readout.proofs.count_level.Goals as goal
-
-pub loop-x-init : goal.loop-x-init
-loop-x-init c = (sym (segments_nil _ _ _ _ (omega arith)), omega arith, omega arith)
-
-pub loop-x-preserved-then-k-ranks : goal.loop-x-preserved-then-k-ranks
-loop-x-preserved-then-k-ranks c = (omega (arith, segments_in (rank c.args.ranks.now) c.args.k c.loop-x.x (omega arith)), omega arith, omega arith)
-
-pub loop-x-preserved : goal.loop-x-preserved
-loop-x-preserved c = (omega (arith, segments_out (rank c.args.ranks.now) c.args.k c.loop-x.x (omega arith)), omega arith, omega arith)
 
 pub returns : goal.returns
 returns c =
-    let e : c.loop-x.x ≡ c.args.n - 1 = omega arith in
-    (c.loop-x.invariant.0 ∙ ap (segments (rank c.args.ranks.now) c.args.k 0) e, omega arith)
+    let h : c.count.result ≡ count_by (λ y. leb c.args.k y) (take (length c.args.ranks.now - 1) (drop 1 c.args.ranks.now)) = search rules in
+    (h ∙ segments_by _ _ _ (omega arith), grind (arith, common_steps, count_by-le-length))

@@ -2,13 +2,13 @@
 use mathlib.Core.Path.{◌≡◌}
 use Prim.Native.Nat.{◌-◌}
 use lib.ListN.{length}
-use Rattle.table.specs.Table.{cell}
+use Rattle.table.specs.Table.{costs}
 use Rattle.readout.specs.Read.{rank}
 use Rattle.readout.specs.Lay.{Laying}
 use Rattle.readout.proofs.lay_level.Given as goal
 
 abbrev pub invariant-loop-p : goal.invariant-loop-p
-invariant-loop-p l = Laying (cell l.table l.cap l.k) l.k l.n l.p (rank l.initial.ranks) (rank l.ranks) × (length l.ranks ≡ length l.initial.ranks)
+invariant-loop-p l = Laying (costs l.table l.k) l.k l.n l.p (rank l.initial.ranks) (rank l.ranks) × (length l.ranks ≡ length l.initial.ranks)
 
 abbrev pub decreases-loop-p : goal.decreases-loop-p
 decreases-loop-p l = l.n - l.p

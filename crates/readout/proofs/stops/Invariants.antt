@@ -1,11 +1,8 @@
 -- `readout::stops` meets its contract. The loop's invariant: the scan down to x. Assumes nothing.
-use Rattle.table.specs.Table.{cell}
+use Rattle.table.specs.Table.{costs}
 use Rattle.readout.specs.Read.{rank}
 use Rattle.readout.proofs.Scan.{Scan}
 use Rattle.readout.proofs.stops.Given as goal
 
 abbrev pub invariant-loop-x : goal.invariant-loop-x
-invariant-loop-x l = Scan (cell l.table l.cap l.k) (rank l.ranks) l.k l.n l.x l.j l.sums l.to
-
-abbrev pub decreases-loop-x : goal.decreases-loop-x
-decreases-loop-x l = l.x
+invariant-loop-x l = Scan (costs l.table l.k) (rank l.ranks) l.k l.n l.x l.j l.sums l.to

@@ -5,6 +5,3 @@ use Rattle.sample.proofs.last_marked.Given as goal
 
 abbrev pub invariant-loop-q : goal.invariant-loop-q
 invariant-loop-q l = (l.q ≤ l.j) × ((r : ℕ) → l.q ≤ r → r < l.j → Marked l.marks r → ⊥)
-
-abbrev pub decreases-loop-q : goal.decreases-loop-q
-decreases-loop-q l = l.q

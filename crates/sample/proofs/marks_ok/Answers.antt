@@ -1,21 +1,16 @@
--- `sample::marks_ok` meets its contract. The loop's invariant: every mark passed is in range. Assumes nothing.
-use mathlib.Core.Path.{sym, ◌∙◌}
-use native.Mathlib.Omega.{arith}
-use borrow.Author.Tests.{not-true, not-false}
-use Rattle.refusal.proofs.Laws.{all_no, passed_none, passed_more, passed_all}
-use Rattle.sample.specs.Mark.{marks_ok}
+-- `sample::marks_ok` meets its contract. Assumes nothing.
+use mathlib.Core.Path.{◌∙◌}
+use lib.ListN.{take}
+use Rattle.std.proofs.Common.{rules, tests}
+use Rattle.std.proofs.lemmas.Iterator.{YieldsList-from_slice}
+use Rattle.std.proofs.lemmas.Iterator.Search.{all_from_yields_List}
+use Rattle.refusal.proofs.Laws.{all_taken}
+use Rattle.sample.specs.Mark.{mark_ok, marks_ok}
 use Rattle.sample.proofs.marks_ok.Goals as goal
-
-pub loop-k-init : goal.loop-k-init
-loop-k-init c = passed_none
-
-pub returns-then-not-mark_ok : goal.returns-then-not-mark_ok
-unfolding marks_ok
-returns-then-not-mark_ok c = sym (all_no _ c.loop-k.k _ (omega arith) (sym c.mark_ok.ensures ∙ not-true _ c.if-not-mark_ok.true-raw))
-
-pub loop-k-preserved : goal.loop-k-preserved
-loop-k-preserved c = passed_more c.loop-k.invariant (omega arith) (sym c.mark_ok.ensures ∙ not-false _ c.if-not-mark_ok.false-raw)
 
 pub returns : goal.returns
 unfolding marks_ok
-returns c = sym (passed_all c.loop-k.invariant (omega arith))
+returns c =
+    let a = c.args in
+    all_from_yields_List mark_ok _ _ _ c.all.ensures.ran (YieldsList-from_slice (take a.n a.s.now) cc) (λ x b q k. search (rules, tests))
+    ∙ all_taken mark_ok 0 a.s.now a.n c.requires

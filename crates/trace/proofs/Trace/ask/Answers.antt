@@ -1,66 +1,52 @@
 -- `trace::Trace::ask` meets its contract. Assumes nothing.
-use mathlib.Core.Path.{refl}
-use Prim.Native.Nat.{◌-◌, ◌≤◌, ◌<◌}
+use mathlib.Core.Path.{◌≡◌, refl}
+use Prim.Native.Nat.{ℕ, ◌≤◌, ◌<◌, ◌-◌}
 use native.Mathlib.Omega.{arith}
-use Rattle.refusal.specs.Number.{code}
+use Rattle.std.proofs.lemmas.Result.{err_from_is_err_and}
+use Rattle.refusal.specs.Number.{Outcome, code}
+use Rattle.sample.specs.Lent.{lent}
+use Rattle.sample.specs.Samples.{Samples}
 use Rattle.sample.proofs.Coordinate.{fewer_ranged}
-use Rattle.sample.specs.Samples.{samples}
+use Rattle.sizes.specs.declared.Sizes.{Sizes}
+use Rattle.checks.specs.Rows.{ask_outcome, Passed}
 use Rattle.checks.specs.Numbers.{AskNumber}
 use Rattle.checks.proofs.Numbers.{ask_number}
-use Rattle.checks.specs.Rows.{Passed}
 use Rattle.checks.proofs.Passed.{ask_passed, in_range}
+use Rattle.trace.specs.declared.Trace.{Trace}
 use Rattle.trace.specs.Calls.{sizes}
 use Rattle.trace.proofs.Trace.ask.Goals as goal
+use Rattle.trace.proofs.Trace.ask.Goals.{In_ok-ask_outcome}
 
-pub returns-in-Refused : goal.returns-in-Refused
-returns-in-Refused c =
-    let number : let a = c.args in AskNumber (sizes a.self) (samples a.xs.now a.ys.now a.marks.now) a.k a.i a.j (code c.ask_outcome-o.result) = let a = c.args in
-    rw (c.ask_outcome-o.ensures, c.sizes.ensures) (ask_number (sizes a.self) (samples a.xs.now a.ys.now a.marks.now) a.k a.i a.j) in
-    record { number = rw c.in-Refused.is at (number); says = tt; lent = refl }
+-- what the checks say is a number of the paper
+said : (a : Trace) (xs : Samples) (k i j : ℕ) {s : Sizes} {o p : Outcome} → s ≡ sizes a → o ≡ ask_outcome s xs k i j → o ≡ p → AskNumber (sizes a) xs k i j (code p)
+said a xs k i j e f g = rw (← g, f, e) (ask_number (sizes a) xs k i j)
+
+pub returns-in_err-ask_outcome : goal.returns-in_err-ask_outcome
+returns-in_err-ask_outcome c =
+    let a = c.args in
+    let p = err_from_is_err_and c.from_residual.result c.from_residual.ensures.1 in
+    rw (p.1, p.2) (record { number = said a.self (lent a.samples) a.k a.i a.j c.sizes.ensures c.ask_outcome.ensures c.in_err-ask_outcome.was; says = tt; lent = refl })
+
+-- where it goes on, none refuses
+none : (c : In_ok-ask_outcome) → let a = c.args in AskNumber (sizes a.self) (lent a.samples) a.k a.i a.j 0
+none c = let a = c.args in said a.self (lent a.samples) a.k a.i a.j c.sizes.ensures c.ask_outcome.ensures c.in_ok-ask_outcome.was
+
+passed : (c : In_ok-ask_outcome) → let a = c.args in Passed (sizes a.self) (lent a.samples) × (a.i < a.j) × (a.j < a.self.held) × (1 ≤ a.k) × (a.k ≤ a.self.levels)
+passed c = ask_passed _ _ _ _ _ (none c)
 
 pub overflow_sub-k : goal.overflow_sub-k
-overflow_sub-k c =
-    let number : let a = c.args in AskNumber (sizes a.self) (samples a.xs.now a.ys.now a.marks.now) a.k a.i a.j (code c.ask_outcome-o.result) = let a = c.args in
-    rw (c.ask_outcome-o.ensures, c.sizes.ensures) (ask_number (sizes a.self) (samples a.xs.now a.ys.now a.marks.now) a.k a.i a.j) in
-    let zero : let a = c.args in AskNumber (sizes a.self) (samples a.xs.now a.ys.now a.marks.now) a.k a.i a.j 0 = rw c.in_default.is at (number) in
-    let passed : let a = c.args in Passed (sizes a.self) (samples a.xs.now a.ys.now a.marks.now) × (a.i < a.j) × (a.j < a.self.held) × (1 ≤ a.k) × (a.k ≤ a.self.levels) = ask_passed _ _ _ _ _ (zero) in
-    let p = passed in omega arith
+overflow_sub-k c = omega (arith, passed (goal.at.overflow_sub-k c).In_ok-ask_outcome)
 
-pub offset_bounds-tolerances-k : goal.offset_bounds-tolerances-k
-offset_bounds-tolerances-k c =
-    let number : let a = c.args in AskNumber (sizes a.self) (samples a.xs.now a.ys.now a.marks.now) a.k a.i a.j (code c.ask_outcome-o.result) = let a = c.args in
-    rw (c.ask_outcome-o.ensures, c.sizes.ensures) (ask_number (sizes a.self) (samples a.xs.now a.ys.now a.marks.now) a.k a.i a.j) in
-    let zero : let a = c.args in AskNumber (sizes a.self) (samples a.xs.now a.ys.now a.marks.now) a.k a.i a.j 0 = rw c.in_default.is at (number) in
-    let passed : let a = c.args in Passed (sizes a.self) (samples a.xs.now a.ys.now a.marks.now) × (a.i < a.j) × (a.j < a.self.held) × (1 ≤ a.k) × (a.k ≤ a.self.levels) = ask_passed _ _ _ _ _ (zero) in
-    let p = passed in omega (arith, p.0.sized)
+pub offset_bounds-self-k : goal.offset_bounds-self-k
+offset_bounds-self-k c = omega (arith, passed (goal.at.offset_bounds-self-k c).In_ok-ask_outcome)
 
-pub bounds-tolerances-k : goal.bounds-tolerances-k
-bounds-tolerances-k c =
-    let number : let a = c.args in AskNumber (sizes a.self) (samples a.xs.now a.ys.now a.marks.now) a.k a.i a.j (code c.ask_outcome-o.result) = let a = c.args in
-    rw (c.ask_outcome-o.ensures, c.sizes.ensures) (ask_number (sizes a.self) (samples a.xs.now a.ys.now a.marks.now) a.k a.i a.j) in
-    let zero : let a = c.args in AskNumber (sizes a.self) (samples a.xs.now a.ys.now a.marks.now) a.k a.i a.j 0 = rw c.in_default.is at (number) in
-    let passed : let a = c.args in Passed (sizes a.self) (samples a.xs.now a.ys.now a.marks.now) × (a.i < a.j) × (a.j < a.self.held) × (1 ≤ a.k) × (a.k ≤ a.self.levels) = ask_passed _ _ _ _ _ (zero) in
-    let p = passed in omega (arith, p.0.sized)
+pub bounds-self-k : goal.bounds-self-k
+bounds-self-k c = omega (arith, passed (goal.at.bounds-self-k c).In_ok-ask_outcome)
 
-pub permitted-verdict-requires : goal.permitted-verdict-requires
-permitted-verdict-requires c =
-    let number : let a = c.args in AskNumber (sizes a.self) (samples a.xs.now a.ys.now a.marks.now) a.k a.i a.j (code c.ask_outcome-o.result) = let a = c.args in
-    rw (c.ask_outcome-o.ensures, c.sizes.ensures) (ask_number (sizes a.self) (samples a.xs.now a.ys.now a.marks.now) a.k a.i a.j) in
-    let zero : let a = c.args in AskNumber (sizes a.self) (samples a.xs.now a.ys.now a.marks.now) a.k a.i a.j 0 = rw c.in_default.is at (number) in
-    let passed : let a = c.args in Passed (sizes a.self) (samples a.xs.now a.ys.now a.marks.now) × (a.i < a.j) × (a.j < a.self.held) × (1 ≤ a.k) × (a.k ≤ a.self.levels) = ask_passed _ _ _ _ _ (zero) in
-    let p = passed in
+pub permitted-requires : goal.permitted-requires
+permitted-requires c =
+    let p = passed (goal.at.permitted-requires c).In_ok-ask_outcome in
     (fewer_ranged (omega arith) (in_range p.0), omega (arith, p.0.held, p.0.lent.2), p.1, omega (arith, p.0.tolerances.high (c.args.k - 1) (omega arith)))
 
-pub returns-in-Yes : goal.returns-in-Yes
-returns-in-Yes c =
-    let number : let a = c.args in AskNumber (sizes a.self) (samples a.xs.now a.ys.now a.marks.now) a.k a.i a.j (code c.ask_outcome-o.result) = let a = c.args in
-    rw (c.ask_outcome-o.ensures, c.sizes.ensures) (ask_number (sizes a.self) (samples a.xs.now a.ys.now a.marks.now) a.k a.i a.j) in
-    let zero : let a = c.args in AskNumber (sizes a.self) (samples a.xs.now a.ys.now a.marks.now) a.k a.i a.j 0 = rw c.in_default.is at (number) in
-    record { number = zero; says = rw c.in-Yes.is at c.permitted-verdict.ensures; lent = refl }
-
-pub returns-in-No : goal.returns-in-No
-returns-in-No c =
-    let number : let a = c.args in AskNumber (sizes a.self) (samples a.xs.now a.ys.now a.marks.now) a.k a.i a.j (code c.ask_outcome-o.result) = let a = c.args in
-    rw (c.ask_outcome-o.ensures, c.sizes.ensures) (ask_number (sizes a.self) (samples a.xs.now a.ys.now a.marks.now) a.k a.i a.j) in
-    let zero : let a = c.args in AskNumber (sizes a.self) (samples a.xs.now a.ys.now a.marks.now) a.k a.i a.j 0 = rw c.in_default.is at (number) in
-    record { number = zero; says = rw c.in-No.is at c.permitted-verdict.ensures; lent = refl }
+pub returns : goal.returns
+returns c = record { number = none (goal.at.returns c).In_ok-ask_outcome; says = c.permitted.ensures; lent = refl }

@@ -1,0 +1,9 @@
+-- `geometry::Move::cross` meets its contract. Assumes nothing.
+use Rattle.geometry.proofs.Ways.{cross_fits, cross_back}
+use Rattle.geometry.proofs.Move.cross.Goals as goal
+
+pub overflow_sub-result : goal.overflow_sub-result
+overflow_sub-result c = cross_fits c.requires.1 c.requires.0
+
+pub returns : goal.returns
+returns c = cross_back c.requires.1 c.requires.0
