@@ -7,6 +7,7 @@ use geometry::Verdict;
 use refusal::{Outcome, Refusal};
 use sample::{Lent, Sample};
 use script::page::Page;
+use script::say;
 use std::io::Write;
 use std::{fmt, io};
 use trace::{Levels, Trace};
@@ -101,10 +102,11 @@ fn past<W: Write>(
     );
     write!(out, "{a:?} to {b:?} past {p:?} at {e}: ")?;
     match found.asked {
-        Ok(Verdict::Yes) => writeln!(out, "yes"),
-        Ok(Verdict::No(spoiler)) => writeln!(out, "no, sample {spoiler}"),
-        Err(why) => writeln!(out, "{}", Told(Err(why))),
+        Ok(Verdict::Yes) => write!(out, "yes")?,
+        Ok(Verdict::No(spoiler)) => write!(out, "no, sample {spoiler}")?,
+        Err(why) => write!(out, "{}", Told(Err(why)))?,
     }
+    say::end(out)
 }
 
 // The levels of samples: their ranks and the total of segments.
@@ -114,13 +116,15 @@ fn levels<W: Write>(out: &mut W, tolerances: &[u32], samples: Lent<'_>) -> io::R
     let found = find(tolerances, samples);
     let Levels { outcome, total, .. } = found.levels;
     if outcome.is_err() {
-        return writeln!(out, "{}", Told(outcome));
+        write!(out, "{}", Told(outcome))?;
+    } else {
+        write!(out, "ranks")?;
+        for rank in found.ranks.iter().take(samples.across.len()) {
+            write!(out, " {rank}")?;
+        }
+        write!(out, ", total {total}")?;
     }
-    write!(out, "ranks")?;
-    for rank in found.ranks.iter().take(samples.across.len()) {
-        write!(out, " {rank}")?;
-    }
-    writeln!(out, ", total {total}")
+    say::end(out)
 }
 
 // The costs of the stretch of all five samples.
@@ -129,7 +133,8 @@ fn costs<W: Write>(out: &mut W) -> io::Result<()> {
     let table = found.table;
     for level in [2, 3, 1] {
         let cost = table[(level - 1) * CAPACITY * CAPACITY + CAPACITY - 1];
-        writeln!(out, "five samples, cost ({level}, 0, 4): {cost}")?;
+        write!(out, "five samples, cost ({level}, 0, 4): {cost}")?;
+        say::end(out)?;
     }
     Ok(())
 }
@@ -139,7 +144,8 @@ fn starting<W: Write>(out: &mut W, capacity: usize, tolerances: &[u32]) -> io::R
     requires { length tolerances.now ≤ 16 }
 {
     let started = Trace::start(tolerances.len(), capacity, sixteen(tolerances));
-    writeln!(out, "{}", Told(started.outcome))
+    write!(out, "{}", Told(started.outcome))?;
+    say::end(out)
 }
 
 // A first sample.
@@ -159,7 +165,8 @@ fn adding<W: Write>(out: &mut W, across: i16, up: i16) -> io::Result<()> {
         0,
         sample,
     );
-    writeln!(out, "sample ({across}, {up}): {}", Told(added.outcome))
+    write!(out, "sample ({across}, {up}): {}", Told(added.outcome))?;
+    say::end(out)
 }
 
 // Counters 500, 900, 120, 200.
@@ -169,14 +176,16 @@ fn pauses<W: Write>(out: &mut W) -> io::Result<()> {
         \0\0\0\0\x78\0\0\0\0\0\0\0\0\0\0\0\
         \0\0\0\0\xC8\0\0\0\0\0\0\0\0\0\0\0";
     let line = pause::pause_line(file);
-    writeln!(out, "counters 500, 900, 120, 200: pause {}", line.sum)
+    write!(out, "counters 500, 900, 120, 200: pause {}", line.sum)?;
+    say::end(out)
 }
 
 // A record of across 10, up 1, pause 900.
 fn decoding<W: Write>(out: &mut W) -> io::Result<()> {
     let d = record::decode(b"\x0A\0\x01\0\x84\x03\0\0\0\0\0\0\0\0\0\0");
     write!(out, "record 0A 00 01 00 84 03 00 00: ")?;
-    writeln!(out, "across {}, up {}, pause {}", d.across, d.up, d.pause)
+    write!(out, "across {}, up {}, pause {}", d.across, d.up, d.pause)?;
+    say::end(out)
 }
 
 fn stretches<W: Write>(out: &mut W) -> io::Result<()> {
@@ -289,6 +298,5 @@ fn main(rt: HostRuntime) -> io::Result<()> {
     costs(&mut page)?;
     pauses(&mut page)?;
     ranges(&mut page)?;
-    decoding(&mut page)?;
-    page.flush()
+    decoding(&mut page)
 }

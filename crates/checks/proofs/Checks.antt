@@ -1,4 +1,4 @@
--- What a row of tests that ends in Ok says of sizes: of the setup, of what is lent and of the samples held; and the test of a table by quotients. Assumes nothing.
+-- What a row of tests that ends in Ok says of the setup, of what is lent and of the samples held; and a table's test by quotients. Assumes nothing.
 use mathlib.Core.Path.{◌≡◌}
 use mathlib.Core.Bool.{Bool, true}
 use mathlib.Core.List.{List}

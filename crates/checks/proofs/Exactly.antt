@@ -1,4 +1,4 @@
--- Exactly when each number of the paper's table is given, call by call: `k ≡ number ↔ (what passed before it) × (its row)`, and 0 where every check passes. Assumes nothing.
+-- Exactly when each number is given, call by call: `k ≡ number ↔ (what passed before it) × (its row)`; 0 where every check passes. Assumes nothing.
 use mathlib.Core.Path.{◌≡◌}
 use mathlib.Core.Logic.{◌↔◌}
 use mathlib.Core.Bool.{Bool}
@@ -39,7 +39,8 @@ pub record TraceRows (a : Sizes) (Lent Stored : Type 0) (k : ℕ) : Type 0 where
   pub row_3 : k ≡ 3 ↔ (Sized a.levels a.capacity × Tolerances a.levels a.tolerances) × (Lent → ⊥)
   -- n greater than N
   pub row_4 : k ≡ 4 ↔ (Sized a.levels a.capacity × Tolerances a.levels a.tolerances × Lent) × (a.capacity < a.held)
-  -- a stored coordinate out of range, a stored mark above 1 or, where a table is lent, a cell of a stretch i < j < n that is neither 65,535 nor from k to 1 + (k - 1) (j - i), or 65,535 for neighbours
+  -- a stored coordinate out of range, a stored mark above 1 or, where a table is lent, a cell of a stretch i < j < n that is neither 65,535 nor
+  -- from k to 1 + (k - 1) (j - i), or 65,535 for neighbours
   pub row_5 : k ≡ 5 ↔ (Sized a.levels a.capacity × Tolerances a.levels a.tolerances × Lent × (a.held ≤ a.capacity)) × (Stored → ⊥)
 
 -- where the rows that follow give 0 or a number above 5

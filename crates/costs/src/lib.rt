@@ -49,7 +49,7 @@ fn price(k: usize, finest: usize, rest: u32) -> u16
     if finest <= k { (rest + 1) as u16 } else { NONE }
 }
 
-// Write the cells of level k and end j, from the starts below top.
+// Write the cells of level k and end j, from the starts below top, of a slice: a `Table` is lent to be read.
 fn write_row(
     table: &mut [u16],
     sums: &[u32; 256],

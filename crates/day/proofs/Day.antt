@@ -1,4 +1,4 @@
--- The text of a day is one, and fits the buffer: so what stands in dayline's buffer is the text and no part of it, of all that was to be read. Assumes nothing.
+-- The text of a day is one, and fits the buffer: so dayline's buffer holds the text and no part of it, of all that was to be read. Assumes nothing.
 use mathlib.Core.Path.{◌≡◌, refl, sym, ap, subst, ◌∙◌}
 use mathlib.Core.Logic.{inl, inr, ⊎_elim}
 use mathlib.Core.List.{List}

@@ -1,4 +1,4 @@
--- The samples of a file as lists: what stands where, and that the levels chosen of buffers that begin with them are those chosen of the lists. Assumes nothing.
+-- The samples of a file as lists: what stands where, and the levels chosen of buffers that begin with them are those of the lists. Assumes nothing.
 use mathlib.Core.Path.{◌≡◌, refl, sym, subst, ◌∙◌}
 use mathlib.Core.List.{List, [], ◌∷◌}
 use Prim.Native.Nat.{ℕ, zero, suc, ◌-◌, ◌≤◌, ◌<◌}

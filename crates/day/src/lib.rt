@@ -6,7 +6,7 @@ ghost use Rattle.refusal.specs.Number.{number};
 ghost use Rattle.sample.specs.Samples.{samples};
 ghost use Rattle.pause.specs.Pause.{pause_line_of};
 ghost use Rattle.day.specs.Day.{DayNumber, Reported};
-ghost use Rattle.day.specs.Fill.{Lent as has_places, AddsAll};
+ghost use Rattle.day.specs.Fill.{Lent as HasPlaces, AddsAll};
 
 use refusal::Refusal;
 use sample::Lent;
@@ -32,7 +32,7 @@ fn add_all(
     table: &mut [u16],
     file: &[u8],
 ) -> Result<Trace, Refusal>
-    requires { ((pause_line_of file.now).outcome ≡ Ok tt) × has_places (samples xs.old ys.old marks.old) table.old }
+    requires { ((pause_line_of file.now).outcome ≡ Ok tt) × HasPlaces (samples xs.old ys.old marks.old) table.old }
     ensures { AddsAll file.now result (samples xs.new ys.new marks.new) table.new }
 {
     let mut trace = Trace::start(lines::LEVELS, CAPACITY, TOLERANCES).trace;
@@ -44,9 +44,9 @@ fn add_all(
     Ok(trace)
 }
 
-// The text of a day that is not refused: how many bytes of it stand in out.
+// The text of a day, and how many bytes of it stand in out; or its refusal, and nothing is written.
 #[tactic(auto, using(crate::proofs::Reported::number_file, crate::proofs::Reported::number_full))]
-fn levels_text(file: &[u8], out: &mut [u8]) -> Result<usize, Refusal>
+fn day_text(file: &[u8], out: &mut [u8]) -> Result<usize, Refusal>
     ensures { MatchResult result (λ end. Reported file.now out.old out.new end) (λ why. DayNumber file.now (number why) × (out.new ≡ out.old)) }
 {
     let line = pause::pause_line(file);
@@ -80,7 +80,7 @@ fn levels_text(file: &[u8], out: &mut [u8]) -> Result<usize, Refusal>
 pub fn report(file: &[u8], out: &mut [u8]) -> usize
     ensures reported { Reported file.now out.old out.new result }
 {
-    match levels_text(file, out) {
+    match day_text(file, out) {
         Ok(end) => end,
         Err(why) => lines::refused_line(out, Err(why)),
     }

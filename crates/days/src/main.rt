@@ -24,13 +24,7 @@ fn print_day<W: Write>(output: &mut W, number: u64, file: &[u8]) -> io::Result<(
     output.write_all(&out[..k])
 }
 
-// A day that is cut short.
-fn broken<W: Write>(output: &mut W) -> io::Result<bool> {
-    output.write_all(b"?\n")?;
-    Ok(false)
-}
-
-// Read a day and print its text; whether there was one.
+// Read a day and print its text, or the line of one that is cut short or too long; whether there may be more.
 fn turn<R: Read, W: Write>(input: &mut R, output: &mut W, number: u64) -> io::Result<bool> {
     let mut bytes = [0u8; 4];
     let got = input::read_full(input, &mut bytes);
@@ -38,12 +32,10 @@ fn turn<R: Read, W: Write>(input: &mut R, output: &mut W, number: u64) -> io::Re
         return Ok(false);
     }
     let n = u32::from_le_bytes(bytes) as usize;
-    if got < bytes.len() || n > DAY_MOST {
-        return broken(output);
-    }
     let mut day = [0u8; DAY_MOST];
-    if input::read_full(input, &mut day[..n]) < n {
-        return broken(output);
+    if got < bytes.len() || n > DAY_MOST || input::read_full(input, &mut day[..n]) < n {
+        output.write_all(b"?\n")?;
+        return Ok(false);
     }
     print_day(output, number, &day[..n])?;
     Ok(true)

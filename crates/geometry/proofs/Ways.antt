@@ -16,7 +16,7 @@ use Rattle.geometry.specs.Nearest.{dot, cross}
 use Rattle.geometry.specs.Way.{Way}
 
 -- ---- between samples
-pub way_size : {a b : ℤ} → Coord a → Coord b → nat_abs (b -ℤ a) ≤ 32768
+way_size : {a b : ℤ} → Coord a → Coord b → nat_abs (b -ℤ a) ≤ 32768
 way_size {a} {b} h g = omega (arith, size_sub b a, h.low, g.low)
 
 -- ---- what the code works out fits a signed 64-bit number
@@ -42,6 +42,9 @@ read z = back (to_z w16 (of_z w16 z))
 
 pub way_back : {a b : ℤ} → Coord a → Coord b → back (read b -ℤ read a) ≡ b -ℤ a
 way_back h g = rw (to_z-of_z (narrow h), to_z-of_z (narrow g), to_z-of_z (wide h), to_z-of_z (wide g), to_z-of_z (way_fits h g)) refl
+
+pub way_small : {a b : ℤ} → Coord a → Coord b → nat_abs (back (read b -ℤ read a)) ≤ 32768
+way_small h g = rw (way_back h g) (way_size h g)
 
 -- the square of a number that was handed on so
 module _ (z : ℤ) (h : nat_abs z ≤ 2147483648) where
@@ -78,6 +81,14 @@ module _ {dx dy px py : ℤ} (w : Way dx dy) (v : Way px py) where
     where
       handed_on : (z : ℤ) → nat_abs z ≤ 32768 → back z ≡ z
       handed_on z l = to_z-of_z (size_fits z (omega arith))
+
+  -- from the segment's end to the sample
+  pub past_back : (back (back px -ℤ back dx) ≡ px -ℤ dx) × (back (back py -ℤ back dy) ≡ py -ℤ dy)
+  past_back =
+      let e = ways_back in (
+        rw (e.0, e.2) (to_z-of_z (size_fits (px -ℤ dx) (omega (arith, size_sub px dx, w.across, v.across)))),
+        rw (e.1, e.3) (to_z-of_z (size_fits (py -ℤ dy) (omega (arith, size_sub py dy, w.up, v.up)))),
+      )
 
   dot_size : nat_abs (dot dx dy px py) ≤ 2147483648
   dot_size =

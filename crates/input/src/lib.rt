@@ -10,10 +10,7 @@ pub fn read_full<R: Read>(input: &mut R, buf: &mut [u8]) -> usize
     ensures { result ≤ length buf.new }
 {
     let mut done = 0;
-    for _ in 0..u64::MAX {
-        if done == buf.len() {
-            break;
-        }
+    while done < buf.len() {
         match input.read(&mut buf[done..]) {
             Ok(0) | Err(_) => break,
             Ok(n) => done += n,

@@ -1,4 +1,4 @@
--- Exactly when each number of the paper's table is given to a file: `k ≡ number ↔ (what passed before it) × (its row)`, and 0 where every check passes. Assumes nothing.
+-- Exactly when a file is given each number: `k ≡ number ↔ (what passed before it) × (its row)`, and 0 where every check passes. Assumes nothing.
 use Rattle.std.proofs.Common.{◌≡◌, ℕ, ◌*◌, ◌/◌, ◌<◌, ◌↔◌, List, length, inl, inr, arith}
 use Rattle.record.specs.Plain.{RecordGiven}
 use Rattle.record.proofs.Exactly.{not_ten}

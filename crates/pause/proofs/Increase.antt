@@ -1,5 +1,5 @@
--- What a record adds to the pause line: the difference modulo 4,294,967,296 in plain words, the increase by whether a restart lies before the record, and
--- the increase exactly as the plain statement says. Assumes nothing.
+-- What a record adds to the pause line: the difference modulo 4,294,967,296 in plain words, the increase by whether a restart lies before it,
+-- and the increase exactly as the plain statement says. Assumes nothing.
 use Rattle.std.proofs.Common.{◌≡◌, ℕ, suc, ◌+◌, ◌*◌, ◌/◌, ◌%◌, ◌<◌, ◌≤◌, true, false, ◌↔◌, List, length, get_or, sym, subst, arith}
 use Rattle.std.proofs.lemmas.Bool.Decides.{nat_tests}
 use Rattle.std.specs.Prelude.{Ok}

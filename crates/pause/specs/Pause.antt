@@ -35,8 +35,8 @@ difference earlier later = ((later + 4294967296) - earlier) % 4294967296
 unfoldable pub both_with_boot : List ℕ → ℕ → ℕ → Bool
 both_with_boot s p q = edition s p == 1 && edition s q == 1
 
--- what the record at place q adds after the one at place p: between two of edition 1 the difference where their boot is equal and else the later counter;
--- where either is of edition 0, by the old rule
+-- what the record at place q adds after the one at place p: between two of edition 1 the difference where their boot is equal, else the later
+-- counter; where either is of edition 0, by the old rule
 unfoldable pub increase : List ℕ → ℕ → ℕ → ℕ
 increase s p q =
     cond (both_with_boot s p q)

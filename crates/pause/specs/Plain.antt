@@ -26,7 +26,7 @@ FileGiven s = First 10 (Misfit s) (RecordsGiven s (length s / 16))
 
 -- d is what the record at place q adds after the one at place p
 pub record Adds (s : List ℕ) (p q d : ℕ) : Type 0 where
-  -- between two of edition 1 of equal boot: the number below 4,294,967,296 that, added to the earlier counter, gives the later one modulo 4,294,967,296
+  -- between two of edition 1 of equal boot: the number below 4,294,967,296 that, added to the earlier counter, gives the later modulo 4,294,967,296
   pub same_boot : edition s p ≡ 1 → edition s q ≡ 1 → boot s p ≡ boot s q → (d < 4294967296) × ((counter s p + d) % 4294967296 ≡ counter s q)
   -- of unequal boot: the later counter
   pub new_boot : edition s p ≡ 1 → edition s q ≡ 1 → (boot s p ≢ boot s q) → d ≡ counter s q

@@ -5,24 +5,16 @@ use Prim.Native.Nat.{ℕ, ◌+◌, ◌-◌, ◌≤◌, ◌<◌}
 use native.Mathlib.Omega.{arith}
 use lib.ListN.{length, replicate}
 use Rattle.family.specs.Fine.{Checked}
-use Rattle.family.specs.Family.{segments, total, Readout}
+use Rattle.family.specs.Family.{segments, total}
 use Rattle.family.specs.Family as Family
-use Rattle.family.proofs.Ranks.{read_same, readout}
+use Rattle.family.proofs.Ranks.{readout}
 use Rattle.table.specs.Table.{cell}
 use Rattle.table.proofs.Stops.{zeros}
 use Rattle.table.proofs.Writes.{anew}
 use Rattle.readout.specs.Read.{rank, RanksRead}
 use Rattle.readout.specs.Lay.{Ranked, Counted, ReadBy}
+use Rattle.readout.proofs.Unique.{readout_ranks}
 use Rattle.readout.proofs.Meaning.{read_ranks}
-
--- only the ranks of the n samples count
-readout_ranks : (c : ℕ → ℕ → ℕ → ℕ) (m n : ℕ) (r s : ℕ → ℕ) → 0 < n → ((x : ℕ) → x < n → s x ≡ r x) → Readout c m n r → Readout c m n s
-readout_ranks c m n r s some same R = record {
-  first = same 0 some ∙ R.first;
-  last = same (n - 1) (omega arith) ∙ R.last;
-  highest = λ x h. rw (same x h) (R.highest x h);
-  read = read_same c m 0 (n - 1) r s (λ x i j. rw (same x (omega arith))) R.read;
-}
 
 ranked_some : (t : List ℕ) (N m n : ℕ) (r : List ℕ) → 0 < n → n ≤ length r → (e : List ℕ) × Ranked t N m n r e
 ranked_some t N m n r some room =

@@ -1,14 +1,16 @@
 -- A read-out leaves one result, whatever the table holds. Assumes nothing.
-use mathlib.Core.Path.{◌≡◌, sym, ◌∙◌}
-use mathlib.Core.List.{List}
+use mathlib.Core.Path.{◌≡◌, refl, sym, ◌∙◌}
+use mathlib.Core.List.{List, ◌++◌}
 use Prim.Native.Nat.{ℕ, ◌+◌, ◌-◌, ◌≤◌, ◌<◌}
 use native.Mathlib.Nat.{le_refl}
 use native.Mathlib.Decide.{dec_lt}
 use native.Mathlib.Omega.{arith}
-use lib.ListN.{length, take, length-take}
-use Rattle.std.proofs.lemmas.List.{get_or-take}
-use lib.Seq.{ext_get_or}
+use lib.ListN.{length, take, drop}
+use lib.Seq.{ext_get_or, length_front}
+use Rattle.std.proofs.lemmas.List.{get_or-append_right, get_or_append_left, get_or-drop, length-take-le}
+use Rattle.family.specs.Family.{Readout}
 use Rattle.family.proofs.Counts.{segments_same, total_same}
+use Rattle.family.proofs.Ranks.{read_same}
 use Rattle.family.proofs.Local.{readout_cells}
 use Rattle.family.proofs.Ties.{readout_unique}
 use Rattle.table.specs.Table.{cell}
@@ -39,11 +41,29 @@ counted_ranks r s m n per sum some same C = record {
   all = C.all ∙ total_same r s m 0 (n - 1) (λ x i j. rw (same x (omega arith)));
 }
 
--- so they are counted of those alone
-pub counted_first : (e : List ℕ) (m n : ℕ) {per : List ℕ} {sum : ℕ} → 0 < n → n ≤ length e → Counted (rank (take n e)) m (length (take n e)) per sum → Counted (rank e) m n per sum
-counted_first e m n some room C =
-    let z : length (take n e) ≡ n = simp length-take (omega arith) in
-    counted_ranks (rank (take n e)) (rank e) m n _ _ some (λ x h. get_or-take n e x 0 h) (rw z at C)
+pub readout_ranks : (c : ℕ → ℕ → ℕ → ℕ) (m n : ℕ) (r s : ℕ → ℕ) → 0 < n → ((x : ℕ) → x < n → s x ≡ r x) → Readout c m n r → Readout c m n s
+readout_ranks c m n r s some same R = record {
+  first = same 0 some ∙ R.first;
+  last = same (n - 1) (omega arith) ∙ R.last;
+  highest = λ x h. rw (same x h) (R.highest x h);
+  read = read_same c m 0 (n - 1) r s (λ x i j. rw (same x (omega arith))) R.read;
+}
+
+-- so a read-out of the first n ranks alone, e, is one of them all
+pub read_part : (t : List ℕ) (N m n : ℕ) (r e per : List ℕ) (sum : ℕ) → 0 < n → n ≤ length r → Ranked t N m (length (take n r)) (take n r) e
+    → Counted (rank e) m (length e) per sum → ReadBy t N m n r (e ++ drop n r) per sum
+read_part t N m n r e per sum some room R C =
+    let z : length (take n r) ≡ n = length-take-le n r room in
+    let y : length e ≡ n = R.same ∙ z in
+    let front : (x : ℕ) → x < n → rank (e ++ drop n r) x ≡ rank e x = λ x h. get_or_append_left e (drop n r) 0 x (rw y h) in
+    record {
+      ranks = record {
+        same = length_front r e n R.same;
+        readout = readout_ranks (cell t N) m n (rank e) _ some front (rw z at R.readout);
+        other = λ x h. get_or-append_right e (drop n r) n x 0 y h ∙ get_or-drop n r (x - n) 0 ∙ (let w : n + (x - n) ≡ x = omega arith in rw w refl);
+      };
+      counts = counted_ranks (rank e) _ m n _ _ some (λ x h. sym (front x h)) (rw y at C);
+    }
 
 -- any two results that the contract allows for one entry are equal
 pub read_unique : (t : List ℕ) (N m n : ℕ) (r e f u v : List ℕ) (s w : ℕ) → ReadBy t N m n r e u s → ReadBy t N m n r f v w → (e ≡ f) × (u ≡ v) × (s ≡ w)

@@ -10,15 +10,15 @@ ghost use Rattle.readout.specs.Lay.{Ranked, Counted, ReadBy, Way, Laying, Bare, 
 use table::Table;
 
 // The chosen stop after each sample on the way to the next sample of a level above k.
-fn stops(table: Table<'_>, ranks: &[u8], k: usize, n: usize) -> [usize; 256]
-    requires le_k { (1 ≤ k) × (k ≤ 16) × (table.capacity ≤ 256) × (0 < n) × (n ≤ table.capacity) }
-    requires cap_in_bounds { (k * (table.capacity * table.capacity) ≤ length table.cells.now) × (n ≤ length ranks.now) }
-    ensures { (x : ℕ) → x + 1 < n → Way (costs table.entry k) (rank ranks.now) k n x (get_or result x 0) }
+fn stops(table: Table<'_>, ranks: &[u8], k: usize) -> [usize; 256]
+    requires le_k { (1 ≤ k) × (k ≤ 16) × (table.capacity ≤ 256) × (0 < length ranks.now) × (length ranks.now ≤ table.capacity) }
+    requires cap_in_bounds { k * (table.capacity * table.capacity) ≤ length table.cells.now }
+    ensures { (x : ℕ) → x + 1 < length ranks.now → Way (costs table.entry k) (rank ranks.now) k (length ranks.now) x (get_or result x 0) }
 {
     let mut to: [usize; 256] = [0; 256];
     let mut sums: [u32; 256] = [0; 256];
-    let mut j = n - 1;
-    for x in (0..n - 1).rev() {
+    let mut j = ranks.len() - 1;
+    for x in (0..ranks.len() - 1).rev() {
         let stop = table.best_stop(&sums, k, x, j);
         sums[x] = stop.sum;
         to[x] = stop.to;
@@ -39,40 +39,41 @@ fn mark(ranks: &mut [u8], q: usize, k: usize)
 
 // Lay level k between the samples of the levels above it.
 #[tactic(auto, using(crate::proofs::Lay::way_after, crate::proofs::Lay::way_inside, crate::proofs::Lay::laying_more))]
-fn lay_level(table: Table<'_>, ranks: &mut [u8], k: usize, n: usize)
-    requires le_k { (1 ≤ k) × (k ≤ 16) × (table.capacity ≤ 256) × (0 < n) × (n ≤ table.capacity) }
-    requires cap_in_bounds { (k * (table.capacity * table.capacity) ≤ length table.cells.now) × (n ≤ length ranks.old) }
-    requires bare { Bare k n (rank ranks.old) }
-    ensures { Laying (costs table.entry k) k n (n - 1) (rank ranks.old) (rank ranks.new) }
+fn lay_level(table: Table<'_>, ranks: &mut [u8], k: usize)
+    requires le_k { (1 ≤ k) × (k ≤ 16) × (table.capacity ≤ 256) × (0 < length ranks.old) × (length ranks.old ≤ table.capacity) }
+    requires cap_in_bounds { k * (table.capacity * table.capacity) ≤ length table.cells.now }
+    requires bare { Bare k (length ranks.old) (rank ranks.old) }
+    ensures { Laying (costs table.entry k) k (length ranks.old) (length ranks.old - 1) (rank ranks.old) (rank ranks.new) }
 {
-    let to = stops(table, ranks, k, n);
+    let to = stops(table, ranks, k);
+    // From stop to stop, which no range counts.
     let mut p = 0;
-    while p + 1 < n {
+    while p + 1 < ranks.len() {
         p = to[p];
         mark(ranks, p, k);
     }
 }
 
-// Give both ends of n samples rank m, and those between rank 0.
-fn start(ranks: &mut [u8], m: usize, n: usize)
-    requires { (m ≤ 16) × (1 < n) × (n ≤ length ranks.old) }
-    ensures { Started m n ranks.old ranks.new }
+// Give both ends of the samples rank m, and those between rank 0.
+fn start(ranks: &mut [u8], m: usize)
+    requires { (m ≤ 16) × (1 < length ranks.old) }
+    ensures { Started m (length ranks.old) ranks.old ranks.new }
 {
-    ranks[..n].fill(0);
+    ranks.fill(0);
     ranks[0] = m as u8;
-    ranks[n - 1] = m as u8;
+    ranks[ranks.len() - 1] = m as u8;
 }
 
-// Write the ranks of n samples: both ends, then the levels from m down.
+// Write the ranks of samples: both ends, then the levels from m down.
 #[tactic(auto, using(crate::proofs::Down::ranked))]
-fn lay_all(table: Table<'_>, ranks: &mut [u8], m: usize, n: usize)
-    requires le_m { (1 ≤ m) × (m ≤ 16) × (table.capacity ≤ 256) × (1 < n) × (n ≤ table.capacity) }
-    requires cap_in_bounds { (m * (table.capacity * table.capacity) ≤ length table.cells.now) × (n ≤ length ranks.old) }
-    ensures { Ranked table.entry.cells.now table.entry.capacity m n ranks.old ranks.new }
+fn lay_all(table: Table<'_>, ranks: &mut [u8], m: usize)
+    requires le_m { (1 ≤ m) × (m ≤ 16) × (table.capacity ≤ 256) × (1 < length ranks.old) × (length ranks.old ≤ table.capacity) }
+    requires cap_in_bounds { m * (table.capacity * table.capacity) ≤ length table.cells.now }
+    ensures { Ranked table.entry.cells.now table.entry.capacity m (length ranks.old) ranks.old ranks.new }
 {
-    start(ranks, m, n);
+    start(ranks, m);
     for k in (1..=m).rev() {
-        lay_level(table, ranks, k, n);
+        lay_level(table, ranks, k);
     }
 }
 
@@ -112,6 +113,7 @@ pub fn read(table: Table<'_>, ranks: &mut [u8], m: usize, n: usize) -> Segments
     requires cap_in_bounds { (m * (table.capacity * table.capacity) ≤ length table.cells.now) × (n ≤ length ranks.old) }
     ensures { ReadBy table.entry.cells.now table.entry.capacity m n ranks.old ranks.new result.per result.total }
 {
-    lay_all(table, ranks, m, n);
-    count_all(&ranks[..n], m)
+    let held = &mut ranks[..n];
+    lay_all(table, held, m);
+    count_all(held, m)
 }

@@ -32,7 +32,7 @@ const SPARE: usize = 12;
 
 const SPARE_BYTES: usize = 4;
 
-// What one house record says; on refusal every field is zero.
+// What one house record says; on refusal every field is zero, as the requirements ask, so it is no Result.
 #[derive(Clone, Copy)]
 pub struct Decoded {
     pub outcome: Outcome,

@@ -24,14 +24,14 @@ impl State {
                 held: 0,
                 tolerances: [0; 16],
             },
-            buffers: Buffers::nothing(),
-            lists: Samples::empty(),
+            buffers: Buffers::default(),
+            lists: Samples::default(),
         }
     }
 
     // setup m N n t1..t16: forge the trace.
     fn setup(&mut self, command: &Command) -> Result<(), Unknown> {
-        let tolerances = command.tolerances(4)?;
+        let tolerances = command.tolerances_from(4)?;
         self.trace = Trace {
             levels: command.number(1)?,
             capacity: command.number(2)?,
@@ -43,7 +43,7 @@ impl State {
 
     // start m N t1..t16
     fn start(&mut self, command: &Command) -> Result<Answer, Unknown> {
-        let tolerances = command.tolerances(3)?;
+        let tolerances = command.tolerances_from(3)?;
         let started = Trace::start(command.number(1)?, command.number(2)?, tolerances);
         self.trace = started.trace;
         Ok(Answer::Started(started))
@@ -62,20 +62,20 @@ impl State {
     fn read(&mut self, table: &[u16]) -> Answer {
         let cells = self.buffers.cells(table);
         let samples = self.buffers.samples.lent();
-        let ranks = self.buffers.ranks.used_mut();
+        let ranks = self.buffers.ranks.as_mut_slice();
         Answer::Levels(self.trace.read(samples, cells, ranks))
     }
 
     // put v x y mark
     fn put(&mut self, command: &Command, table: &mut [u16]) -> Result<Answer, Unknown> {
         let v = command.number(1)?;
-        let sample = command.sample(2)?;
+        let sample = command.sample_from(2)?;
         let cells = self.buffers.cells_mut(table);
         let samples = &mut self.buffers.samples;
         let changed = self.trace.put(
-            samples.across.used_mut(),
-            samples.up.used_mut(),
-            samples.marks.used_mut(),
+            samples.across.as_mut_slice(),
+            samples.up.as_mut_slice(),
+            samples.marks.as_mut_slice(),
             cells,
             v,
             sample,
@@ -89,9 +89,9 @@ impl State {
         let cells = self.buffers.cells_mut(table);
         let samples = &mut self.buffers.samples;
         let uploaded = self.trace.upload(
-            samples.across.used_mut(),
-            samples.up.used_mut(),
-            samples.marks.used_mut(),
+            samples.across.as_mut_slice(),
+            samples.up.as_mut_slice(),
+            samples.marks.as_mut_slice(),
             cells,
             self.lists.lent(),
         );
@@ -113,7 +113,7 @@ impl State {
             }
             Operation::Put => return self.put(command, table).map(Some),
             Operation::List => self.lists.list(command)?,
-            Operation::Empty => self.lists = Samples::empty(),
+            Operation::Empty => self.lists = Samples::default(),
             Operation::Upload => return Ok(Some(self.upload(table))),
         }
         Ok(None)

@@ -100,12 +100,7 @@ pub fn first_marked(marks: &[u8], from: usize, j: usize) -> usize
     requires { (from ≤ j) × (j < length marks.now) }
     ensures { FirstMarked marks.now from j result }
 {
-    for k in from..j {
-        if marks[k] == MARKED {
-            return k;
-        }
-    }
-    j
+    (from..j).find(|k| marks[*k] == MARKED).unwrap_or(j)
 }
 
 // The highest marked sample before j, 0 where there is none.
@@ -113,10 +108,5 @@ pub fn last_marked(marks: &[u8], j: usize) -> usize
     requires { j < length marks.now }
     ensures { LastMarked marks.now j result }
 {
-    for q in (0..j).rev() {
-        if marks[q] == MARKED {
-            return q;
-        }
-    }
-    0
+    (0..j).rev().find(|q| marks[*q] == MARKED).unwrap_or(0)
 }

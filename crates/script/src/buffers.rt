@@ -1,5 +1,5 @@
-// What is lent to every call, and the lists of an upload.
-ghost use Rattle.std.specs.Prelude.{◌≡◌, OnErr};
+// What is lent to the calls, and the lists of an upload.
+ghost use Rattle.std.specs.Prelude.{◌≡◌, ◌≤◌, length, OnErr};
 
 use crate::command::{Command, Unknown};
 use crate::digest::Crc;
@@ -8,7 +8,7 @@ use crate::part::Part;
 use sample::Lent;
 
 // The samples of a trace, or those of an upload.
-#[derive(Drop)]
+#[derive(Default, Drop)]
 pub struct Samples {
     pub across: Part<i16>,
     pub up: Part<i16>,
@@ -16,21 +16,12 @@ pub struct Samples {
 }
 
 impl Samples {
-    // No values.
-    pub fn empty() -> Samples {
-        Samples {
-            across: Part::empty(),
-            up: Part::empty(),
-            marks: Part::empty(),
-        }
-    }
-
-    // Those in use, lent.
+    // Lent to a call.
     pub fn lent(&self) -> Lent<'_> {
         Lent {
-            across: self.across.used(),
-            up: self.up.used(),
-            marks: self.marks.used(),
+            across: self.across.as_slice(),
+            up: self.up.as_slice(),
+            marks: self.marks.as_slice(),
         }
     }
 
@@ -38,16 +29,16 @@ impl Samples {
     pub fn list(&mut self, command: &Command) -> Result<(), Unknown> {
         let v = command.word(2);
         match command.word(1) {
-            0 => self.across.append(v),
-            1 => self.up.append(v),
-            2 => self.marks.append(v),
+            0 => part::append(&mut self.across, v),
+            1 => part::append(&mut self.up, v),
+            2 => part::append(&mut self.marks, v),
             _ => Err(Unknown),
         }
     }
 }
 
-// The parts of the buffers, and how many of the cells, which stand in a table apart.
-#[derive(Drop)]
+// The buffers that are lent to a call. The cells are the first of a table that the program keeps and hands to each method.
+#[derive(Default, Drop)]
 pub struct Buffers {
     pub samples: Samples,
     pub ranks: Part<u8>,
@@ -55,24 +46,15 @@ pub struct Buffers {
 }
 
 impl Buffers {
-    // Nothing lent.
-    pub fn nothing() -> Buffers {
-        Buffers {
-            samples: Samples::empty(),
-            ranks: Part::empty(),
-            cells: 0,
-        }
-    }
-
     // bufs LX LY LT LR LM: lend so much of each buffer, and fill it.
     pub fn bufs(&mut self, command: &Command, table: &mut [u16]) -> Result<(), Unknown>
         ensures { OnErr result (table.new ≡ table.old) }
     {
-        let across = Part::filled(command.number(1)?, 7919, 13)?;
-        let up = Part::filled(command.number(2)?, 104729, 29)?;
+        let across = part::filled(command.number(1)?, 7919, 13)?;
+        let up = part::filled(command.number(2)?, 104729, 29)?;
         let n: usize = command.number(3)?;
-        let ranks = Part::filled(command.number(4)?, 31, 5)?;
-        let marks = Part::filled(command.number(5)?, 17, 2)?;
+        let ranks = part::filled(command.number(4)?, 31, 5)?;
+        let marks = part::filled(command.number(5)?, 17, 2)?;
         if n > table.len() {
             return Err(Unknown);
         }
@@ -92,27 +74,33 @@ impl Buffers {
         let p = command.number(2)?;
         let v = command.word(3);
         match command.word(1) {
-            0 => part::poke(self.samples.across.used_mut(), p, v),
-            1 => part::poke(self.samples.up.used_mut(), p, v),
+            0 => part::poke(self.samples.across.as_mut_slice(), p, v),
+            1 => part::poke(self.samples.up.as_mut_slice(), p, v),
             2 => {
-                let n = self.cells.min(table.len());
+                let n = self.lent_of(table);
                 part::poke(&mut table[..n], p, v)
             }
-            3 => part::poke(self.ranks.used_mut(), p, v),
-            4 => part::poke(self.samples.marks.used_mut(), p, v),
+            3 => part::poke(self.ranks.as_mut_slice(), p, v),
+            4 => part::poke(self.samples.marks.as_mut_slice(), p, v),
             _ => Err(Unknown),
         }
     }
 
-    // Of the table, what is lent.
+    // How many cells of the table are lent.
+    fn lent_of(&self, table: &[u16]) -> usize
+        ensures { result ≤ length table.now }
+    {
+        self.cells.min(table.len())
+    }
+
+    // The cells of the table that are lent.
     pub fn cells<'a>(&self, table: &'a [u16]) -> &'a [u16] {
-        let n = self.cells.min(table.len());
-        &table[..n]
+        &table[..self.lent_of(table)]
     }
 
     // The same, to be written.
     pub fn cells_mut<'a>(&self, table: &'a mut [u16]) -> &'a mut [u16] {
-        let n = self.cells.min(table.len());
+        let n = self.lent_of(table);
         &mut table[..n]
     }
 
@@ -120,11 +108,11 @@ impl Buffers {
     pub fn digest(&self, steps: &[u32; 256], table: &[u16]) -> u32 {
         let samples = &self.samples;
         Crc::new(steps)
-            .values(samples.across.used())
-            .values(samples.up.used())
+            .values(samples.across.as_slice())
+            .values(samples.up.as_slice())
             .values(self.cells(table))
-            .values(self.ranks.used())
-            .values(samples.marks.used())
+            .values(self.ranks.as_slice())
+            .values(samples.marks.as_slice())
             .ended()
     }
 }

@@ -1,5 +1,5 @@
 // A command: 80 bytes, twenty words of 32 bits, low byte first. Word 0 is the operation, the others are nineteen signed numbers.
-ghost use Rattle.std.specs.Prelude.{◌<◌};
+ghost use Rattle.std.specs.Prelude.{◌≡◌, ◌<◌, length};
 
 use crate::say;
 use sample::Sample;
@@ -15,7 +15,8 @@ pub struct Command {
     bytes: [u8; LENGTH],
 }
 
-// Of a command that is none: its operation is unknown, or a number is none that the operation can take.
+// Of a command that is none: its operation is unknown, a number is none that the operation can take, there is no such place, or
+// there is no room.
 #[derive(Clone, Copy)]
 pub struct Unknown;
 
@@ -81,7 +82,9 @@ impl Command {
     }
 
     // The record of a decode: the 16 bytes after the operation.
-    pub fn record(&self) -> &[u8] {
+    pub fn record(&self) -> &[u8]
+        ensures { 16 ≡ length result.now }
+    {
         &self.bytes[4..20]
     }
 
@@ -100,7 +103,7 @@ impl Command {
     }
 
     // Words k to k + 2 as a sample.
-    pub fn sample(&self, k: usize) -> Result<Sample, Unknown>
+    pub fn sample_from(&self, k: usize) -> Result<Sample, Unknown>
         requires { k < 18 }
     {
         Ok(Sample {
@@ -111,7 +114,7 @@ impl Command {
     }
 
     // Sixteen tolerances from word k on.
-    pub fn tolerances(&self, k: usize) -> Result<[u32; 16], Unknown>
+    pub fn tolerances_from(&self, k: usize) -> Result<[u32; 16], Unknown>
         requires { k < 5 }
     {
         let mut tolerances = [0; 16];

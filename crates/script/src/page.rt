@@ -1,6 +1,5 @@
 // Standard output with a buffer of its own, and so without a heap.
-ghost use Rattle.std.specs.Prelude.{◌≤◌};
-
+use arrayvec::ArrayVec;
 use std::io;
 use std::io::{Stdout, Write};
 
@@ -11,9 +10,7 @@ const PAGE_ROOM: usize = 4096;
 #[derive(Drop)]
 pub struct Page {
     to: Stdout,
-    bytes: [u8; PAGE_ROOM],
-    used: usize,
-    ghost in_room: { used ≤ 4096 },
+    bytes: ArrayVec<u8, PAGE_ROOM>,
 }
 
 impl Page {
@@ -21,28 +18,24 @@ impl Page {
     pub fn new(to: Stdout) -> Page {
         Page {
             to,
-            bytes: [0; PAGE_ROOM],
-            used: 0,
+            bytes: ArrayVec::new(),
         }
     }
 }
 
 impl Write for Page {
+    // As much as there is room for.
     fn write(&mut self, buf: &[u8]) -> io::Result<usize> {
-        if self.used == PAGE_ROOM {
+        if self.bytes.is_full() {
             self.flush()?;
         }
-        let n = buf.len().min(PAGE_ROOM - self.used);
-        let end = self.used + n;
-        self.bytes[self.used..end].copy_from_slice(&buf[..n]);
-        self.used = end;
-        Ok(n)
+        self.bytes.write(buf)
     }
 
     // What a failed write leaves is not written again.
     fn flush(&mut self) -> io::Result<()> {
-        let used = self.used;
-        self.used = 0;
-        self.to.write_all(&self.bytes[..used])
+        let written = self.to.write_all(self.bytes.as_slice());
+        self.bytes.clear();
+        written
     }
 }

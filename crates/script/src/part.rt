@@ -1,15 +1,19 @@
-// Buffers of which the first n values are in use: what is lent to a call, or what a list of an upload has.
-ghost use Rattle.std.specs.Prelude.{◌≡◌, ◌≤◌, OnErr};
+// Lists of values with room of their own: what is lent to a call, or what a list of an upload has.
+ghost use Rattle.std.specs.Prelude.{◌≡◌, OnErr};
 
 use crate::command::Unknown;
 use crate::digest::Crc;
+use arrayvec::ArrayVec;
 use std::num::TryFromIntError;
 
 // Room for the values of each.
-pub const ROOM: usize = 320;
+const ROOM: usize = 320;
+
+// At most so many values.
+pub type Part<T> = ArrayVec<T, ROOM>;
 
 // What a buffer holds: numbers of 8 or 16 bits.
-pub trait Value: Copy + TryFrom<i32, Error = TryFromIntError> {
+pub trait Value: Copy + Default + TryFrom<i32, Error = TryFromIntError> {
     // A number wrapped to the type.
     fn wrapped(n: usize) -> Self;
 
@@ -66,53 +70,18 @@ pub fn poke<T: Value>(values: &mut [T], p: usize, word: i32) -> Result<(), Unkno
     Ok(())
 }
 
-#[derive(Drop)]
-pub struct Part<T> {
-    values: [T; ROOM],
-    n: usize,
-    ghost in_room: { n ≤ 320 },
+// n values filled, where there is room for them.
+pub fn filled<T: Value>(n: usize, step: usize, start: usize) -> Result<Part<T>, Unknown> {
+    if n > ROOM {
+        return Err(Unknown);
+    }
+    let mut part = ArrayVec::from([T::wrapped(0); ROOM]);
+    part.truncate(n);
+    fill(part.as_mut_slice(), step, start);
+    Ok(part)
 }
 
-impl<T: Value> Part<T> {
-    // None in use.
-    pub fn empty() -> Part<T> {
-        Part {
-            values: [T::wrapped(0); ROOM],
-            n: 0,
-        }
-    }
-
-    // n in use, where there is room for them, and every place filled.
-    pub fn filled(n: usize, step: usize, start: usize) -> Result<Part<T>, Unknown> {
-        if n > ROOM {
-            return Err(Unknown);
-        }
-        let mut part = Part::empty();
-        fill(&mut part.values, step, start);
-        part.n = n;
-        Ok(part)
-    }
-
-    // Those in use.
-    pub fn used(&self) -> &[T] {
-        &self.values[..self.n]
-    }
-
-    // The same, to be written.
-    pub fn used_mut(&mut self) -> &mut [T] {
-        let n = self.n;
-        let values = &mut self.values;
-        &mut values[..n]
-    }
-
-    // One more in use, where there is room and the type can hold it.
-    pub fn append(&mut self, word: i32) -> Result<(), Unknown> {
-        let n = self.n;
-        if n == ROOM {
-            return Err(Unknown);
-        }
-        poke(&mut self.values, n, word)?;
-        self.n = n + 1;
-        Ok(())
-    }
+// One value more, where there is room and its type can hold the word.
+pub fn append<T: Value>(part: &mut Part<T>, word: i32) -> Result<(), Unknown> {
+    part.try_push(T::try_from(word)?).map_err(|_| Unknown)
 }

@@ -1,4 +1,4 @@
-// The pieces of a line. A line is flushed where it ends, so each is one write where the writer has a buffer.
+// The pieces of a line. The end of a line flushes the writer, so that a line that fits in a `Page` is one write.
 use std::io::Write;
 use std::{fmt, io};
 
@@ -15,7 +15,7 @@ impl<T: fmt::Display, const N: usize> fmt::Display for Spaced<T, N> {
     }
 }
 
-// The end of the line.
+// The end of a line, flushed.
 pub fn end<W: Write>(out: &mut W) -> io::Result<()> {
     writeln!(out)?;
     out.flush()

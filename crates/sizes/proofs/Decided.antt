@@ -4,11 +4,13 @@ use mathlib.Core.List.{List}
 use Prim.Native.Nat.{ℕ, zero, suc, ◌≤◌, ◌<◌}
 use native.Mathlib.Numerals.{add-one}
 use native.Mathlib.Omega.{arith}
-use lib.ListN.{get_or}
+use lib.ListN.{length, get_or, take}
+use lib.Seq.{length-take-le}
+use Rattle.std.proofs.lemmas.List.{get_or-take}
 use Rattle.refusal.specs.declared.Refusal.TheVariants.{Setup, Tolerance}
 use Rattle.std.specs.Prelude.{Ok}
 use Rattle.refusal.specs.Check.{Decides, from_to}
-use Rattle.refusal.proofs.Laws.{unless_done, then_done}
+use Rattle.refusal.proofs.Laws.{unless_done, then_done, all_same}
 use Rattle.refusal.proofs.Plain.{carry, by_less, by_order, both_decided, from_to_decided, all_decided}
 use Rattle.refusal.proofs.Rows.{Row, unless_row, then_row}
 use Rattle.sizes.specs.Setup.{Sized, Tolerances, SetupNumber}
@@ -32,6 +34,15 @@ tolerances_decided m tols =
     above : Tolerances m tols → (l : ℕ) → l < m → before tols l < get_or tols l 0
     above T zero h = T.low 0 h
     above T (suc l) h = rw (add-one l) at (T.rise l (omega arith))
+
+-- the first m are tested as they stand
+pub tolerances_taken : (m : ℕ) (tols : List ℕ) → m ≤ length tols → tolerances_ok (length (take m tols)) (take m tols) ≡ tolerances_ok m tols
+unfolding tolerances_ok tolerance_ok
+tolerances_taken m tols h = rw (length-take-le m tols h) (all_same m (tolerance_ok (take m tols)) (tolerance_ok tols) same)
+  where
+    same : (l : ℕ) → l < m → tolerance_ok (take m tols) l ≡ tolerance_ok tols l
+    same zero b = rw (get_or-take m tols 0 0 b)
+    same (suc l) b = rw (get_or-take m tols l 0 (omega arith), get_or-take m tols (suc l) 0 b)
 
 pub setup_done : (m N : ℕ) (tols : List ℕ) → setup_outcome m N tols ≡ Ok tt → Sized m N
 unfolding setup_outcome

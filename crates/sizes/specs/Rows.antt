@@ -1,4 +1,4 @@
--- Refusals 1 and 2 as the tests that the code is proved against. `proofs/Decided.antt` shows that they decide what `Setup.antt` says. Assumes nothing.
+-- Refusals 1 and 2 as the tests that the code is proved against. By `proofs/Decided.antt` they decide what `Setup.antt` says. Assumes nothing.
 use Rattle.std.specs.Prelude.{ℕ, zero, suc, Bool, ◌&&◌, List, leb, ltb, get_or}
 use Rattle.refusal.specs.declared.Refusal.TheVariants.{Setup, Tolerance}
 use Rattle.refusal.specs.Number.{Outcome}

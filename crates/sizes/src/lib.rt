@@ -1,13 +1,14 @@
 // How large a trace is, by value: levels, capacity, samples held and tolerances; their ranges, and refusals 1 and 2.
 #![tactic(auto)]
 
-ghost use Rattle.std.specs.Prelude.{◌≡◌, ◌≤◌};
+ghost use Rattle.std.specs.Prelude.{◌≡◌, ◌≤◌, length};
 ghost use Rattle.sizes.specs.Setup.{kept, held_with};
 ghost use Rattle.sizes.specs.Rows.{setup_ok, tolerances_ok, setup_outcome};
 
 use refusal::{Outcome, Refusal, unless};
 
 // Levels m, capacity N, samples held n, and the tolerances of levels 1 to m; those past m are never read.
+// A trace's setup has the same fields: the requirements want it as a type with its calls.
 #[derive(Clone, Copy)]
 pub struct Sizes {
     pub levels: usize,
@@ -36,13 +37,12 @@ fn setup_ok(m: usize, cap: usize) -> bool
     (LEVELS_LEAST..=LEVELS_MOST).contains(&m) && (CAPACITY_LEAST..=CAPACITY_MOST).contains(&cap)
 }
 
-// Whether the tolerances of levels 1 to m are in range and rise.
-fn tolerances_ok(m: usize, tolerances: [u32; 16]) -> bool
-    requires { m ≤ 16 }
-    ensures { result ≡ tolerances_ok m tolerances }
+// Whether tolerances are in range and rise.
+fn tolerances_ok(tolerances: &[u32]) -> bool
+    ensures { result ≡ tolerances_ok (length tolerances.now) tolerances.now }
 {
     let mut least = TOLERANCE_LEAST;
-    for &e in &tolerances[..m] {
+    for &e in tolerances {
         if e < least || TOLERANCE_MOST < e {
             return false;
         }
@@ -57,7 +57,7 @@ pub fn setup_outcome(m: usize, cap: usize, tolerances: [u32; 16]) -> Outcome
     ensures { result ≡ setup_outcome m cap tolerances }
 {
     unless(setup_ok(m, cap), Refusal::Setup)?;
-    unless(tolerances_ok(m, tolerances), Refusal::Tolerance)
+    unless(tolerances_ok(&tolerances[..m]), Refusal::Tolerance)
 }
 
 // The first m tolerances, and zeros after them.
@@ -75,8 +75,5 @@ pub fn held_with(n: usize, v: usize) -> usize
     requires { n ≤ 256 }
     ensures { result ≡ held_with n v }
 {
-    if v < n {
-        return n;
-    }
-    n + 1
+    if v < n { n } else { n + 1 }
 }

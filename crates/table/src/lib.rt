@@ -25,8 +25,8 @@ fn long_ok(k: u16, most: u16, cost: u16) -> bool
     cost == NONE || (k..=most).contains(&cost)
 }
 
-// Whether the cells of level k of the stretches of 1, 2, .. steps from one sample, which stand one after another, may hold what they hold; that of neighbours
-// is not none. A bad cell does not end the loop, which is compiled to many cells at a time so.
+// Whether the cells of one row may hold what they hold: those of level k of the stretches of 1, 2, .. steps from one sample, one after another.
+// The first is that of neighbours and is not none. A bad cell does not end the loop, so that it is compiled to many cells at a time.
 #[tactic(auto, using(crate::proofs::Check::row_none, crate::proofs::Check::row_more, crate::proofs::Check::row_all))]
 fn row_ok(row: &[u16], k: u16) -> bool
     requires { (1 ≤ k) × (k ≤ 16) × (1 ≤ length row.now) × (length row.now ≤ 256) }
@@ -48,7 +48,7 @@ pub struct Stop {
     pub to: usize,
 }
 
-// A table of cells with room for so many samples.
+// A table of cells with room for so many samples, lent to be read.
 #[derive(Clone, Copy)]
 pub struct Table<'a> {
     pub cells: &'a [u16],
@@ -56,7 +56,7 @@ pub struct Table<'a> {
 }
 
 impl Table<'_> {
-    // Whether the cells of level k of the stretches of the first held samples may.
+    // Whether the cells of level k of the stretches of the first held samples may hold what they hold.
     fn level_ok(self, held: usize, k: usize) -> bool
         requires { (1 ≤ k) × (k ≤ 16) × (self.capacity ≤ 256) × (k * (self.capacity * self.capacity) ≤ length self.cells.now) × (held ≤ self.capacity) }
         ensures { result ≡ level_ok self.entry.cells.now self.entry.capacity held k }
@@ -93,8 +93,8 @@ impl Table<'_> {
         self.cells[cell_at(self.capacity, k, i, j)] as u32
     }
 
-    // The least sum from p to j over the cells of level k, where sums has the least sums from the places between. The loop goes up, along the row, and keeps
-    // no stop: it is compiled to many cells at a time so.
+    // The least sum from p to j over the cells of level k, where sums has the least sums from the places between.
+    // The loop goes up, along the row, and keeps no stop, so that it is compiled to many cells at a time.
     #[tactic(auto, using(crate::proofs::Stops::lesser_none, crate::proofs::Stops::lesser_more, crate::proofs::Stops::lesser_all))]
     pub fn least_sum(self, sums: &[u32; 256], k: usize, p: usize, j: usize) -> u32
         requires le_k { (1 ≤ k) × (k ≤ 16) × (self.capacity ≤ 256) × (p < j) × (j < self.capacity) }

@@ -25,6 +25,7 @@ pub struct Trace {
     pub tolerances: [u32; 16],
 }
 
+// Each answer is a struct and no Result: the requirements say what a refusal returns beside its number.
 // What start gives: an empty trace; refused, a trace of no levels and no capacity.
 #[derive(Clone, Copy)]
 pub struct Started {
@@ -79,9 +80,9 @@ impl Trace {
     pub const TOLERANCE_MOST: u32 = sizes::TOLERANCE_MOST;
 }
 
-// The calls.
+// The calls. Buffers that a call writes stay slices: two fields of a struct of `&mut` cannot be lent on together.
 impl Trace {
-    // What the checks know of it.
+    // What the checks know of it: the same fields, since the crates below know no trace.
     fn sizes(self) -> Sizes
         ensures { result ≡ sizes self }
     {

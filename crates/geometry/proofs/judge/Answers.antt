@@ -3,6 +3,7 @@ use mathlib.Core.Logic.{⊎_elim}
 use native.Mathlib.Nat.{eq-or-lt_of_le}
 use native.Mathlib.Omega.{arith}
 use Rattle.refusal.specs.Check.{Decides}
+use Rattle.sample.proofs.Coordinate.{fewer}
 use Rattle.geometry.specs.Near.{Along}
 use Rattle.geometry.proofs.Link.{near_by}
 use Rattle.geometry.proofs.judge.Goals as goal
@@ -10,6 +11,9 @@ use Rattle.geometry.proofs.judge.Goals.{After-near}
 
 pub loop-k-init : goal.loop-k-init
 loop-k-init c = (c.requires.in_range.2, c.requires.clear)
+
+pub way-requires : goal.way-requires
+way-requires c = let p = c.requires.in_range in (fewer (omega arith) p.0, fewer (omega arith) p.1, omega arith)
 
 -- what the comparison decides of the ways it decides of sample k
 judged : (c : After-near) → let a = c.args in Decides (Along a.samples.across.now a.samples.up.now a.i a.j a.e c.loop-k.k) c.near.result

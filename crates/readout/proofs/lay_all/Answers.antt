@@ -8,4 +8,4 @@ pub loop-k-preserved : goal.loop-k-preserved
 loop-k-preserved c =
     let l = c.lay_level in
     let v = c.loop-k.invariant in
-    (down_more _ _ _ (omega arith) (omega arith) _ _ (rank c.loop-k.ranks) _ (omega arith) (omega arith) v.0 l.ensures, l.auto.ranks ∙ v.1)
+    (down_more _ _ _ (omega arith) (omega arith) _ _ (rank c.loop-k.ranks) _ (omega arith) (omega arith) v.0 (rw v.1 at l.ensures), l.auto.ranks ∙ v.1)

@@ -7,4 +7,4 @@ use Rattle.readout.proofs.Down.{Down}
 use Rattle.readout.proofs.lay_all.Given as goal
 
 abbrev pub invariant-loop-k : goal.invariant-loop-k
-invariant-loop-k l = Down (costs l.table) l.m l.n l.k (rank l.initial.ranks) (rank l.ranks) × (length l.ranks ≡ length l.initial.ranks)
+invariant-loop-k l = Down (costs l.table) l.m (length l.initial.ranks) l.k (rank l.initial.ranks) (rank l.ranks) × (length l.ranks ≡ length l.initial.ranks)

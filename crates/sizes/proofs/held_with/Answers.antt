@@ -7,5 +7,5 @@ use Rattle.sizes.proofs.held_with.Goals as goal
 pub returns-then-v-n : goal.returns-then-v-n
 returns-then-v-n c = sym (held_corrected _ _ (omega arith))
 
-pub returns : goal.returns
-returns c = sym (held_added _ _ (omega arith))
+pub returns-else-v-n : goal.returns-else-v-n
+returns-else-v-n c = sym (held_added _ _ (omega arith))

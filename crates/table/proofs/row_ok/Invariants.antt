@@ -1,4 +1,4 @@
--- `table::row_ok` meets its contract. The loop's invariant: whether every cell passed may hold what it holds, and the most that the last may be. Assumes nothing.
+-- `table::row_ok` meets its contract. The loop's invariant: whether no cell passed is bad, and the most that the last may be. Assumes nothing.
 use Rattle.std.proofs.Common.{◌≡◌, ◌+◌, ◌-◌, ◌*◌}
 use Rattle.table.proofs.Check.{so_far}
 use Rattle.table.proofs.row_ok.Given as goal

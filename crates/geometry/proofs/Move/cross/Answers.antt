@@ -3,7 +3,7 @@ use Rattle.geometry.proofs.Ways.{cross_fits, cross_back}
 use Rattle.geometry.proofs.Move.cross.Goals as goal
 
 pub overflow_sub-result : goal.overflow_sub-result
-overflow_sub-result c = cross_fits c.requires.1 c.requires.0
+overflow_sub-result c = cross_fits c.args.other.in_range c.args.self.in_range
 
 pub returns : goal.returns
-returns c = cross_back c.requires.1 c.requires.0
+returns c = cross_back c.args.other.in_range c.args.self.in_range

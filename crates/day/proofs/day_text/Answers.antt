@@ -1,10 +1,10 @@
--- `day::levels_text` meets its contract: the file, a put or the read is refused, or the levels are written. Assumes nothing.
+-- `day::day_text` meets its contract: the file, a put or the read is refused, or the levels are written. Assumes nothing.
 use Rattle.std.proofs.Common.{refl}
 use Rattle.std.proofs.lemmas.Result.{err_from_is_err_and}
 use Rattle.sample.specs.Samples.{samples}
 use Rattle.day.proofs.Records.{good_sum}
 use Rattle.day.proofs.Reported.{number_few, reported_day}
-use Rattle.day.proofs.levels_text.Goals as goal
+use Rattle.day.proofs.day_text.Goals as goal
 
 pub returns-in_err-levels : goal.returns-in_err-levels
 returns-in_err-levels c =
