@@ -2,6 +2,9 @@
 // adds the digest.
 #![tactic(auto)]
 
+ghost use Rattle.std.specs.Prelude.{◌≡◌};
+ghost use Rattle.answers.specs.Digest.{has_digest};
+
 use geometry::Verdict;
 use record::Decoded;
 use refusal::{Refusal, number};
@@ -22,7 +25,9 @@ pub enum Answer {
 
 impl Answer {
     // Whether a digest ends its line.
-    pub fn has_digest(&self) -> bool {
+    pub fn has_digest(&self) -> bool
+        ensures { result ≡ has_digest self.now }
+    {
         matches!(
             self,
             Answer::Levels(_) | Answer::Changed(_) | Answer::Uploaded(_)
