@@ -56,8 +56,8 @@ fn sixteen(first: &[u32]) -> [u32; 16]
     tolerances
 }
 
-// Upload samples to an empty trace of a level for each tolerance, ask and read.
-fn find(tolerances: &[u32], samples: Lent<'_>) -> Found
+// Upload samples to an empty trace of so many levels, ask and read.
+fn find(levels: usize, tolerances: &[u32], samples: Lent<'_>) -> Found
     requires { length tolerances.now ≤ 16 }
 {
     let mut xs = [0; CAPACITY];
@@ -65,7 +65,7 @@ fn find(tolerances: &[u32], samples: Lent<'_>) -> Found
     let mut marks = [0; CAPACITY];
     let mut table = [0; 400];
     let mut ranks = [0; CAPACITY];
-    let started = Trace::start(tolerances.len(), CAPACITY, sixteen(tolerances));
+    let started = Trace::start(levels, CAPACITY, sixteen(tolerances));
     let empty = started.trace;
     let uploaded = empty.upload(&mut xs, &mut ys, &mut marks, &mut table, samples);
     let trace = uploaded.trace;
@@ -93,6 +93,7 @@ fn past<W: Write>(
     e: u32,
 ) -> io::Result<()> {
     let found = find(
+        1,
         &[e],
         Lent {
             across: &[a.0, p.0, b.0],
@@ -109,11 +110,11 @@ fn past<W: Write>(
     say::end(out)
 }
 
-// The levels of samples: their ranks and the total of segments.
-fn levels<W: Write>(out: &mut W, tolerances: &[u32], samples: Lent<'_>) -> io::Result<()>
+// The m levels of samples: their ranks and the total of segments.
+fn levels<W: Write>(out: &mut W, m: usize, tolerances: &[u32], samples: Lent<'_>) -> io::Result<()>
     requires { length tolerances.now ≤ 16 }
 {
-    let found = find(tolerances, samples);
+    let found = find(m, tolerances, samples);
     let Levels { outcome, total, .. } = found.levels;
     if outcome.is_err() {
         write!(out, "{}", Told(outcome))?;
@@ -129,7 +130,7 @@ fn levels<W: Write>(out: &mut W, tolerances: &[u32], samples: Lent<'_>) -> io::R
 
 // The costs of the stretch of all five samples.
 fn costs<W: Write>(out: &mut W) -> io::Result<()> {
-    let found = find(&TOLERANCES, DAY);
+    let found = find(TOLERANCES.len(), &TOLERANCES, DAY);
     let table = found.table;
     for level in [2, 3, 1] {
         let cost = table[(level - 1) * CAPACITY * CAPACITY + CAPACITY - 1];
@@ -217,6 +218,7 @@ fn families<W: Write>(out: &mut W) -> io::Result<()> {
     write!(out, "four samples, one level: ")?;
     levels(
         out,
+        1,
         &[1],
         Lent {
             across: &[0, 10, 20, 30],
@@ -227,6 +229,7 @@ fn families<W: Write>(out: &mut W) -> io::Result<()> {
     write!(out, "four samples, two levels: ")?;
     levels(
         out,
+        2,
         &[1, 10],
         Lent {
             across: &[0, 10, 20, 20],
@@ -235,23 +238,23 @@ fn families<W: Write>(out: &mut W) -> io::Result<()> {
         },
     )?;
     write!(out, "five samples, three levels: ")?;
-    levels(out, &TOLERANCES, DAY)?;
+    levels(out, TOLERANCES.len(), &TOLERANCES, DAY)?;
     write!(out, "a restart before the third, three levels: ")?;
     let restarted = Lent {
         marks: &[0, 0, 1, 0, 0],
         ..DAY
     };
-    levels(out, &TOLERANCES, restarted)
+    levels(out, TOLERANCES.len(), &TOLERANCES, restarted)
 }
 
-// The first n samples of the day, with tolerances.
-fn few<W: Write>(out: &mut W, tolerances: &[u32], n: usize) -> io::Result<()>
-    requires tolerances { length tolerances.now ≤ 16 }
-    requires samples { n ≤ 5 }
+// The first n samples of the day at m levels, with tolerances 1, 2, .., 16: those past m are never read.
+fn few<W: Write>(out: &mut W, m: usize, n: usize) -> io::Result<()>
+    requires { n ≤ 5 }
 {
     levels(
         out,
-        tolerances,
+        m,
+        &[1, 2, 3, 4, 5, 6, 7, 8, 9, 10, 11, 12, 13, 14, 15, 16],
         Lent {
             across: &DAY.across[..n],
             up: &DAY.up[..n],
@@ -262,17 +265,13 @@ fn few<W: Write>(out: &mut W, tolerances: &[u32], n: usize) -> io::Result<()>
 
 fn short_families<W: Write>(out: &mut W) -> io::Result<()> {
     write!(out, "two samples, one level: ")?;
-    few(out, &[1], 2)?;
+    few(out, 1, 2)?;
     write!(out, "two samples, three levels: ")?;
-    few(out, &[1, 2, 3], 2)?;
+    few(out, 3, 2)?;
     write!(out, "two samples, sixteen levels: ")?;
-    few(
-        out,
-        &[1, 2, 3, 4, 5, 6, 7, 8, 9, 10, 11, 12, 13, 14, 15, 16],
-        2,
-    )?;
+    few(out, 16, 2)?;
     write!(out, "one sample, one level: ")?;
-    few(out, &[1], 1)
+    few(out, 1, 1)
 }
 
 fn ranges<W: Write>(out: &mut W) -> io::Result<()> {

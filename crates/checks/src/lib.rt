@@ -2,7 +2,7 @@
 #![tactic(auto)]
 
 ghost use Rattle.std.specs.Prelude.{◌≡◌, true, ◌&&◌, ◌*◌, ◌≤◌, length};
-ghost use Rattle.sample.specs.Lent.{lent};
+ghost use Rattle.sample.specs.Samples.{lent};
 ghost use Rattle.checks.specs.Numbers.{LentSamples, LentTable};
 ghost use Rattle.checks.specs.Rows.{lengths, samples_lent, table_lent, lent_outcome, stored_ok, stored_outcome, stretch_ok, lists_ok, samples_outcome, trace_outcome, place_outcome, sample_outcome, upload_outcome, ask_outcome, read_outcome};
 

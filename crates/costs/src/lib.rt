@@ -2,7 +2,7 @@
 #![tactic(auto)]
 
 ghost use Rattle.std.specs.Prelude.{◌≡◌, ℕ, suc, ◌+◌, ◌-◌, ◌*◌, ◌≤◌, ◌<◌, min, length, get_or};
-ghost use Rattle.sample.specs.Lent.{lent};
+ghost use Rattle.sample.specs.Samples.{lent};
 ghost use Rattle.sample.specs.Sweep.{Ranged};
 ghost use Rattle.family.specs.Family.{below};
 ghost use Rattle.table.specs.Table.{costs, Wrote};

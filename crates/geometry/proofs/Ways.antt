@@ -16,11 +16,11 @@ use Rattle.geometry.specs.Nearest.{dot, cross}
 use Rattle.geometry.specs.Way.{Way}
 
 -- ---- between samples
-way_size : {a b : ℤ} → Coord a → Coord b → nat_abs (b -ℤ a) ≤ 32768
+pub way_size : {a b : ℤ} → Coord a → Coord b → nat_abs (b -ℤ a) ≤ 32768
 way_size {a} {b} h g = omega (arith, size_sub b a, h.low, g.low)
 
 -- ---- what the code works out fits a signed 64-bit number
-way_fits : {a b : ℤ} → Coord a → Coord b → SFits w64 (b -ℤ a)
+pub way_fits : {a b : ℤ} → Coord a → Coord b → SFits w64 (b -ℤ a)
 way_fits {a} {b} h g = size_fits (b -ℤ a) (omega (arith, way_size h g))
 
 product_size : (a b : ℤ) → nat_abs a ≤ 32768 → nat_abs b ≤ 32768 → nat_abs (a *ℤ b) ≤ 1073741824
@@ -62,10 +62,10 @@ module _ (z : ℤ) (h : nat_abs z ≤ 2147483648) where
 
 -- a sum of two squares, each step of it handed on so
 module _ (x y : ℤ) (h : nat_abs x ≤ 65536) (g : nat_abs y ≤ 65536) where
-  squares_size : sq x + sq y ≤ 8589934592
+  pub squares_size : sq x + sq y ≤ 8589934592
   squares_size = omega (arith, mul-le-mul h h, mul-le-mul g g)
 
-  squares_sum : back (back x *ℤ back x) +ℤ back (back y *ℤ back y) ≡ pos (sq x + sq y)
+  pub squares_sum : back (back x *ℤ back x) +ℤ back (back y *ℤ back y) ≡ pos (sq x + sq y)
   squares_sum = rw (square_back x (omega arith), square_back y (omega arith)) refl
 
   pub squares_back : back (back (back x *ℤ back x) +ℤ back (back y *ℤ back y)) ≡ pos (sq x + sq y)
@@ -76,7 +76,7 @@ module _ (x y : ℤ) (h : nat_abs x ≤ 65536) (g : nat_abs y ≤ 65536) where
 
 -- what the code works out of the ways to the segment's end and to the sample, each step of it handed on so
 module _ {dx dy px py : ℤ} (w : Way dx dy) (v : Way px py) where
-  ways_back : (back dx ≡ dx) × (back dy ≡ dy) × (back px ≡ px) × (back py ≡ py)
+  pub ways_back : (back dx ≡ dx) × (back dy ≡ dy) × (back px ≡ px) × (back py ≡ py)
   ways_back = (handed_on dx w.across, handed_on dy w.up, handed_on px v.across, handed_on py v.up)
     where
       handed_on : (z : ℤ) → nat_abs z ≤ 32768 → back z ≡ z
@@ -90,7 +90,7 @@ module _ {dx dy px py : ℤ} (w : Way dx dy) (v : Way px py) where
         rw (e.1, e.3) (to_z-of_z (size_fits (py -ℤ dy) (omega (arith, size_sub py dy, w.up, v.up)))),
       )
 
-  dot_size : nat_abs (dot dx dy px py) ≤ 2147483648
+  pub dot_size : nat_abs (dot dx dy px py) ≤ 2147483648
   dot_size =
       omega (arith, size_add (px *ℤ dx) (py *ℤ dy), product_size px dx v.across w.across, product_size py dy v.up w.up)
 

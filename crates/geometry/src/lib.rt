@@ -7,7 +7,7 @@ ghost use Rattle.algebra.specs.Parts.{sq};
 ghost use Rattle.sample.specs.Coordinate.{InRange};
 ghost use Rattle.geometry.specs.Near.{Along};
 ghost use Rattle.geometry.specs.Nearest.{dot, cross, distance_from, distance};
-ghost use Rattle.sample.specs.Lent.{lent};
+ghost use Rattle.sample.specs.Samples.{lent};
 ghost use Rattle.geometry.specs.Spoiler.{Clear, Told, Says};
 ghost use Rattle.sample.specs.Sweep.{Ranged};
 ghost use Rattle.geometry.specs.Way.{way, Way, NearBy};

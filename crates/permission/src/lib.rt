@@ -3,8 +3,7 @@
 
 ghost use Rattle.std.specs.Prelude.{ℕ, ◌+◌, ◌≤◌, ◌<◌, length, get_or};
 ghost use Rattle.sample.specs.Coordinate.{InRange};
-ghost use Rattle.sample.specs.Lent.{lent};
-ghost use Rattle.sample.specs.Samples.{samples as samples_of};
+ghost use Rattle.sample.specs.Samples.{samples as samples_of, lent};
 ghost use Rattle.sample.specs.Sweep.{Ranged, no_marks};
 ghost use Rattle.permission.specs.Finest.{perm, Rising, Finest};
 

@@ -1,5 +1,4 @@
 pub mod Coordinate
-pub mod Lent
 pub mod Mark
 pub mod Samples
 pub mod Sweep

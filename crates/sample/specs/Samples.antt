@@ -1,6 +1,7 @@
 -- A sample, and the buffers that hold the samples of a trace. Assumes nothing.
 use Rattle.std.specs.Prelude.{ℕ, List, ℤ, pos, get_or, set}
 use Rattle.sample.specs.declared.Sample.{Sample}
+use Rattle.sample.specs.declared.Lent.{Lent}
 
 -- a sample's coordinates, and its mark: 1 for the first sample of a new boot, else 0
 abbrev pub sample : ℤ → ℤ → ℕ → Sample
@@ -13,6 +14,10 @@ pub record Samples : Type 0 where
 
 abbrev pub samples : List ℤ → List ℤ → List ℕ → Samples
 samples xs ys ms = record { across = xs; up = ys; marks = ms }
+
+-- those that are lent to a call
+abbrev pub lent : Lent → Samples
+lent l = samples l.across.now l.up.now l.marks.now
 
 -- sample q of them
 abbrev pub sample_at : Samples → ℕ → Sample

@@ -4,8 +4,7 @@
 ghost use Rattle.std.specs.Prelude.{◌≡◌, ◌≤◌, ◌<◌, length};
 ghost use Rattle.sample.specs.Coordinate.{coordinate_ok, coordinates_ok};
 ghost use Rattle.sample.specs.Mark.{mark_ok, marks_ok};
-ghost use Rattle.sample.specs.Lent.{lent};
-ghost use Rattle.sample.specs.Samples.{sample_at};
+ghost use Rattle.sample.specs.Samples.{sample_at, lent};
 ghost use Rattle.sample.specs.Sweep.{FirstMarked, LastMarked};
 ghost use Rattle.sample.specs.Valid.{sample_ok, samples_ok};
 

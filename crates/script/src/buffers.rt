@@ -1,5 +1,5 @@
 // What is lent to the calls, and the lists of an upload.
-ghost use Rattle.std.specs.Prelude.{◌≡◌, ◌≤◌, length, OnErr};
+ghost use Rattle.std.specs.Prelude.{◌≡◌, ◌≤◌, length, min, take, OnErr};
 
 use crate::command::{Command, Unknown};
 use crate::digest::Crc;
@@ -8,7 +8,7 @@ use crate::part::Part;
 use sample::Lent;
 
 // The samples of a trace, or those of an upload.
-#[derive(Default, Drop)]
+#[derive(Default, Clone, Drop)]
 pub struct Samples {
     pub across: Part<i16>,
     pub up: Part<i16>,
@@ -16,8 +16,11 @@ pub struct Samples {
 }
 
 impl Samples {
-    // Lent to a call.
-    pub fn lent(&self) -> Lent<'_> {
+    // Lent to a call: at most 320 of each.
+    pub fn lent(&self) -> Lent<'_>
+        ensures values { (result.across.now ≡ self.now.across.items) × (result.up.now ≡ self.now.up.items) × (result.marks.now ≡ self.now.marks.items) }
+        ensures lengths { (length result.across.now ≤ 320) × (length result.up.now ≤ 320) × (length result.marks.now ≤ 320) }
+    {
         Lent {
             across: self.across.as_slice(),
             up: self.up.as_slice(),
@@ -38,7 +41,7 @@ impl Samples {
 }
 
 // The buffers that are lent to a call. The cells are the first of a table that the program keeps and hands to each method.
-#[derive(Default, Drop)]
+#[derive(Default, Clone, Drop)]
 pub struct Buffers {
     pub samples: Samples,
     pub ranks: Part<u8>,
@@ -88,18 +91,22 @@ impl Buffers {
 
     // How many cells of the table are lent.
     fn lent_of(&self, table: &[u16]) -> usize
-        ensures { result ≤ length table.now }
+        ensures { result ≡ min self.now.cells (length table.now) }
     {
         self.cells.min(table.len())
     }
 
     // The cells of the table that are lent.
-    pub fn cells<'a>(&self, table: &'a [u16]) -> &'a [u16] {
+    pub fn cells<'a>(&self, table: &'a [u16]) -> &'a [u16]
+        ensures { result.now ≡ take (min self.now.cells (length table.now)) table.now }
+    {
         &table[..self.lent_of(table)]
     }
 
     // The same, to be written.
-    pub fn cells_mut<'a>(&self, table: &'a mut [u16]) -> &'a mut [u16] {
+    pub fn cells_mut<'a>(&self, table: &'a mut [u16]) -> &'a mut [u16]
+        ensures { result.now ≡ take (min self.now.cells (length table.old)) table.old }
+    {
         let n = self.lent_of(table);
         &mut table[..n]
     }

@@ -32,7 +32,7 @@ cell_decided k steps v =
     (from_to_decided k (1 + (k - 1) * steps) v)
 
 -- that of a stretch that is not of neighbours is known by the most that it may be
-longer_by : (k d most v : ℕ) → 1 ≤ d → most ≡ 1 + (k - 1) * (d + 1) → long_ok k most v ≡ cell_ok k (d + 1) v
+pub longer_by : (k d most v : ℕ) → 1 ≤ d → most ≡ 1 + (k - 1) * (d + 1) → long_ok k most v ≡ cell_ok k (d + 1) v
 unfolding cell_ok long_ok
 longer_by k d most v h e = rw (e, le-leb 2 (d + 1) (omega arith)) (simp and-true)
 

@@ -2,8 +2,7 @@
 #![tactic(auto)]
 
 ghost use Rattle.std.specs.Prelude.{◌≡◌, ◌<◌, length};
-ghost use Rattle.sample.specs.Lent.{lent};
-ghost use Rattle.sample.specs.Samples.{samples};
+ghost use Rattle.sample.specs.Samples.{samples, lent};
 ghost use Rattle.checks.specs.Numbers.{OneLength};
 ghost use Rattle.checks.specs.Rows.{trace_outcome, Passed, PassedTable};
 ghost use Rattle.trace.specs.Calls.{sizes, buffers, holding, StartGives, PutGives, AskGives, ReadGives};

@@ -32,5 +32,5 @@ pub fn signed_at(s: &[u8], p: usize) -> i16
     requires { p + 1 < length s.now }
     ensures { result ≡ signed_at s.now p }
 {
-    i16::from_le_bytes([s[p], s[p + 1]])
+    from_bits(word_at(s, p))
 }

@@ -1,6 +1,6 @@
 -- `checks::samples_outcome` meets its contract. Assumes nothing.
 use mathlib.Core.Path.{sym, ap, ◌∙◌}
-use Rattle.sample.specs.Lent.{lent}
+use Rattle.sample.specs.Samples.{lent}
 use Rattle.checks.specs.Rows.{samples_lent, lent_outcome}
 use Rattle.checks.proofs.Checks.{samples_held}
 use Rattle.checks.proofs.samples_outcome.Goals as goal

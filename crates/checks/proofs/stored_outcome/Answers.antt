@@ -1,6 +1,6 @@
 -- `checks::stored_outcome` meets its contract: where it goes on checks 1 to 4 have passed, so all is long enough. Assumes nothing.
 use mathlib.Core.Path.{sym, ◌∙◌}
-use Rattle.sample.specs.Lent.{lent}
+use Rattle.sample.specs.Samples.{lent}
 use Rattle.checks.proofs.Checks.{lent_done, table_held}
 use Rattle.checks.proofs.stored_outcome.Goals as goal
 

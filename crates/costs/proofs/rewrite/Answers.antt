@@ -3,7 +3,7 @@ use mathlib.Core.Path.{◌≡◌, sym}
 use Prim.Native.Nat.{◌+◌, min}
 use native.Mathlib.Omega.{arith}
 use native.Mathlib.Nat.{mul-le-mul}
-use Rattle.sample.specs.Lent.{lent}
+use Rattle.sample.specs.Samples.{lent}
 use Rattle.permission.specs.Finest.{perm}
 use Rattle.sample.proofs.Coordinate.{fewer_ranged}
 use Rattle.permission.proofs.Perm.{perm_adjacent}

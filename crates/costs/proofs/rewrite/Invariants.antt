@@ -1,7 +1,7 @@
 -- `costs::rewrite` meets its contract. The loop's invariant: the named cells of the ends before j are written. Assumes nothing.
 use mathlib.Core.Path.{◌≡◌}
 use Rattle.costs.specs.Costs.{Named, named}
-use Rattle.sample.specs.Lent.{lent}
+use Rattle.sample.specs.Samples.{lent}
 use Rattle.permission.specs.Finest.{perm}
 use Rattle.costs.specs.Walk.{Rewritten}
 use Rattle.costs.proofs.rewrite.Given as goal

@@ -3,7 +3,7 @@ use mathlib.Core.Path.{◌≡◌}
 use mathlib.Core.Logic.{inl, inr, ⊎_elim}
 use Prim.Native.Nat.{◌+◌, min}
 use native.Mathlib.Omega.{arith}
-use Rattle.sample.specs.Lent.{lent}
+use Rattle.sample.specs.Samples.{lent}
 use Rattle.permission.specs.Finest.{perm}
 use Rattle.permission.proofs.Perm.{perm_adjacent, finest_near}
 use Rattle.costs.proofs.Rows.{rows_said}

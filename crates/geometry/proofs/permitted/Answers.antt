@@ -1,7 +1,7 @@
 -- `geometry::permitted` meets its contract. Assumes nothing.
 use mathlib.Core.Logic.{⊎_elim}
 use native.Mathlib.Omega.{arith}
-use Rattle.sample.specs.Lent.{lent}
+use Rattle.sample.specs.Samples.{lent}
 use Rattle.geometry.proofs.Marks.{far_first, marked_first, none_marked}
 use Rattle.geometry.proofs.permitted.Goals as goal
 

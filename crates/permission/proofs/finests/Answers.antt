@@ -7,7 +7,7 @@ use native.Mathlib.Decide.{dec_le}
 use native.Mathlib.Omega.{arith}
 use lib.ListN.{length-set, get_or-replicate}
 use lib.Seq.{get_or-set_same, get_or-set_other}
-use Rattle.sample.specs.Lent.{lent}
+use Rattle.sample.specs.Samples.{lent}
 use Rattle.permission.proofs.Perm.{perm_unmarked, perm_stops, finest_is, finest_same}
 use Rattle.permission.proofs.finests.Goals as goal
 

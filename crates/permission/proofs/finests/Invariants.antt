@@ -2,7 +2,7 @@
 use mathlib.Core.Path.{◌≡◌}
 use Prim.Native.Nat.{ℕ, ◌+◌, ◌≤◌, ◌<◌}
 use lib.ListN.{length, get_or}
-use Rattle.sample.specs.Lent.{lent}
+use Rattle.sample.specs.Samples.{lent}
 use Rattle.permission.specs.Finest.{perm, Finest}
 use Rattle.permission.proofs.finests.Given as goal
 

@@ -4,8 +4,7 @@ use Prim.Native.Nat.{ℕ, ◌≤◌, ◌<◌, ◌-◌}
 use native.Mathlib.Omega.{arith}
 use Rattle.std.proofs.lemmas.Result.{err_from_is_err_and}
 use Rattle.refusal.specs.Number.{Outcome, code}
-use Rattle.sample.specs.Lent.{lent}
-use Rattle.sample.specs.Samples.{Samples}
+use Rattle.sample.specs.Samples.{Samples, lent}
 use Rattle.sample.proofs.Coordinate.{fewer_ranged}
 use Rattle.sizes.specs.declared.Sizes.{Sizes}
 use Rattle.checks.specs.Rows.{ask_outcome, Passed}
@@ -48,5 +47,7 @@ permitted-requires c =
     let p = passed (goal.at.permitted-requires c).In_ok-ask_outcome in
     (fewer_ranged (omega arith) (in_range p.0), omega (arith, p.0.held, p.0.lent.2), p.1, omega (arith, p.0.tolerances.high (c.args.k - 1) (omega arith)))
 
+-- where none refuses, the stretch is judged at the level's tolerance:
+-- the verdict says what `permitted` says
 pub returns : goal.returns
 returns c = record { number = none (goal.at.returns c).In_ok-ask_outcome; says = c.permitted.ensures; lent = refl }

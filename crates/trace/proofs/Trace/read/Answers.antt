@@ -5,8 +5,7 @@ use Prim.Native.Nat.{ℕ, ◌≤◌}
 use native.Mathlib.Omega.{arith}
 use lib.ListN.{length}
 use Rattle.refusal.specs.Number.{Outcome, code}
-use Rattle.sample.specs.Lent.{lent}
-use Rattle.sample.specs.Samples.{Samples}
+use Rattle.sample.specs.Samples.{Samples, lent}
 use Rattle.sizes.specs.declared.Sizes.{Sizes}
 use Rattle.checks.specs.Numbers.{ReadNumber}
 use Rattle.checks.proofs.Numbers.{read_number}

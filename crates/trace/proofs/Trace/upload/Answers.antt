@@ -2,8 +2,7 @@
 use mathlib.Core.Path.{refl}
 use Prim.Native.Nat.{◌<◌}
 use lib.ListN.{length}
-use Rattle.sample.specs.Lent.{lent}
-use Rattle.sample.specs.Samples.{samples}
+use Rattle.sample.specs.Samples.{samples, lent}
 use Rattle.trace.specs.Calls.{sizes, buffers}
 use Rattle.checks.specs.Numbers.{OneLength}
 use Rattle.checks.specs.Rows.{Passed, PassedTable}
