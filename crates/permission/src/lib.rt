@@ -10,7 +10,8 @@ ghost use Rattle.permission.specs.Finest.{perm, Rising, Finest};
 use geometry::Verdict;
 use sample::Lent;
 
-// The finest level at which the stretch i to j, with no marked sample between, is permitted; m + 1 where there is none.
+// The finest level at which the stretch i to j, with no marked sample between, is permitted; m + 1 where there is none. Not taken into the loop over the starts, where the scans of a flat day take more instructions.
+#[inline(never)]
 fn finest(samples: Lent<'_>, tolerances: &[u32; 16], m: usize, i: usize, j: usize) -> usize
     requires { (InRange samples.across.now (j + 1)) × (InRange samples.up.now (j + 1)) × (i < j) × (m ≤ 16) × (Rising tolerances.now m) }
     ensures { Finest (perm (samples_of samples.entry.across.now samples.entry.up.now no_marks) tolerances.now) m i j result }
